@@ -33,10 +33,12 @@ use Rattle.el_base.specs.declared.events.Kind.TheVariants.{Step, Order, Serve, D
 use Rattle.el_base.specs.declared.outcomes.Cause.TheVariants.{Room, Lines, Long, Call, Mixed}
 use Rattle.el_base.specs.declared.outcomes.Need.TheVariants.{Read, Write}
 use Rattle.el_base.specs.declared.outcomes.Outcome.{Outcome}
-use Rattle.el_base.specs.declared.outcomes.Outcome.TheVariants.{Idle, Stalled, Missed, Ran, Began, Buffered, Committed, RolledBack, Blocked, Delivered, Armed, LetGo}
+use Rattle.el_base.specs.declared.outcomes.Outcome.TheVariants.{Idle, Stalled, Missed, Ran, Began, Buffered, Committed}
+use Rattle.el_base.specs.declared.outcomes.Outcome.TheVariants.{RolledBack, Blocked, Delivered, Armed, LetGo}
 use Rattle.el_base.specs.declared.outcomes.Why.TheVariants.{Behind, Retained, Locked}
 use Rattle.computed_runs.proofs.Computing.{computing}
-use Rattle.computed_runs.proofs.Given.{Ending, armed, ending_of, event, first_state, lost, ordered_with, patched, request, section, served_with, stamp, watch, way}
+use Rattle.computed_runs.proofs.Given.{Ending, armed, ending_of, event, first_state, lost, ordered_with, patched}
+use Rattle.computed_runs.proofs.Given.{request, section, served_with, stamp, watch, way}
 use Rattle.el_model.specs.Next.{outcomes_from, state_after}
 use Rattle.el_model.specs.State.{Hart, ModelState}
 use Rattle.mail.specs.Mailbox.{Marker, Probe}
@@ -133,7 +135,8 @@ def hart(value):
       section = {option(value['section'], section)};
       armed = {option(value.get('armed'), armed)};
       last_lr = {option(value.get('last_lr'), str)};
-      cache = {items('(' + items(map(way, ways)) + ')' for ways in value['cache'])};
+      cache =
+{wrapped(('(' + items(map(way, ways)) + ')' for ways in value['cache']), indent="        ")};
       raised = {option(value['raised'], request)};
       held_line = {option(value['held'], str)};
       mail = {items(map(message, value['mail']))};
@@ -144,7 +147,10 @@ def hart(value):
       clock = {value['clock']};
       seen = {value['seen']};
       attempt = {stamp(value['attempt'])};
-      predictor = record {{ counters = {counters(value['counters_unlike_2'])}; watch = {option(value['watch'], watch)} }};
+      predictor = record {{
+        counters = {counters(value['counters_unlike_2'])};
+        watch = {option(value['watch'], watch)};
+      }};
     }}"""
 
 
@@ -229,8 +235,9 @@ def proof_file(title, run):
 
 
 def bare(text):
-    """A proof file's text without its imports and its layout."""
-    return " ".join(" ".join(line for line in text.splitlines() if not line.startswith("use ")).split())
+    """A proof file's text without its imports and its layout; a record over several lines ends in one more `;`."""
+    words = " ".join(line for line in text.splitlines() if not line.startswith("use ")).split()
+    return " ".join(words).replace("; }", " }")
 
 
 def check():

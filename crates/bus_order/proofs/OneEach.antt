@@ -1,5 +1,6 @@
 -- The list that the code keeps has at most one request of each hart after each call.
-use Rattle.std.proofs.Common.{◌≡◌, ◌≤◌, ◌<◌, ◌==◌, ◌+◌, ℕ, zero, suc, cond, List, [], ◌∷◌, ◌++◌, length, map, None, ap, arith}
+use Rattle.std.proofs.Common.{◌≡◌, ◌≤◌, ◌<◌, ◌==◌, ◌+◌, ℕ, zero, suc, cond, List, [], ◌∷◌, ◌++◌, length, map, None, ap}
+use Rattle.std.proofs.Common.{arith}
 use Rattle.std.specs.List.{count_by, insert, remove}
 use Rattle.std.proofs.lemmas.List.Sums.{sum_by-cons, sum_by_push, sum_by-insert}
 use Rattle.el_base.proofs.Laws.ListLaws.{length_by_codes, count_of_map}
@@ -27,7 +28,8 @@ pub room_for_one : (items : List requests.Request) (request : requests.Request) 
     → request_of (map numbered items) request.hart.number ≡ None → length items < 8
 room_for_one items request once none =
     let code : requests.Request → ℕ = λ request. request.hart.number in
-    let joined : IsOneEach (map numbered (request ∷ items)) = one_each_cons (numbered request) (map numbered items) once none in
+    let joined : IsOneEach (map numbered (request ∷ items)) =
+    one_each_cons (numbered request) (map numbered items) once none in
     let least : suc (length items) ≤ 8 =
     length_by_codes code 8 (request ∷ items) (λ one. one.hart.small)
     (λ hart. omega (arith, count_of_map numbered (λ one. one.hart == hart) (request ∷ items), joined hart))
@@ -35,7 +37,8 @@ room_for_one items request once none =
     omega arith
 
 pub one_each_pushed : (items new : List requests.Request) (request : requests.Request) → new ≡ items ++ request ∷ []
-    → IsOneEach (map numbered items) → request_of (map numbered items) request.hart.number ≡ None → IsOneEach (map numbered new)
+    → IsOneEach (map numbered items) → request_of (map numbered items) request.hart.number ≡ None →
+    IsOneEach (map numbered new)
 one_each_pushed items new request is once none hart =
     omega (
       arith,
@@ -47,7 +50,8 @@ one_each_pushed items new request is once none hart =
 
 pub one_each_inserted : (items new : List requests.Request) (place : ℕ) (request : requests.Request)
     → new ≡ insert items place request
-    → IsOneEach (map numbered items) → request_of (map numbered items) request.hart.number ≡ None → IsOneEach (map numbered new)
+    → IsOneEach (map numbered items) → request_of (map numbered items) request.hart.number ≡ None →
+    IsOneEach (map numbered new)
 one_each_inserted items new place request is once none hart =
     omega (
       arith,

@@ -1,9 +1,11 @@
 -- The words of the order as std's words on the list of requests that the code keeps.
-use Rattle.std.proofs.Common.{◌≡◌, ℕ, ◌+◌, ◌≤◌, ◌==◌, not, Bool, true, false, cond, List, [], ◌∷◌, length, map, reverse, Some, None, refl, ap, sym}
+use Rattle.std.proofs.Common.{◌≡◌, ℕ, ◌+◌, ◌≤◌, ◌==◌, not, Bool, true, false, cond, List, [], ◌∷◌, length, map, reverse}
+use Rattle.std.proofs.Common.{Some, None, refl, ap, sym}
 use Rattle.std.proofs.Common.{◌∙◌, one-add, arith}
 use Rattle.std.specs.List.{find, insert, remove, position, position_or_len}
 use Rattle.std.specs.Option.{option_map, unwrap_or}
-use Rattle.el_base.proofs.Laws.ListLaws.{find_of_map, prefix_of_map, insert_of_map, remove_of_map, reverse_of_map, place_or_length, place_within}
+use Rattle.el_base.proofs.Laws.ListLaws.{find_of_map, prefix_of_map, insert_of_map, remove_of_map, reverse_of_map}
+use Rattle.el_base.proofs.Laws.ListLaws.{place_or_length, place_within}
 use Rattle.el_base.proofs.Laws.ListLaws.{place_by_position, find_by_no_position}
 use Rattle.std.proofs.lemmas.Bool.Decides.{nat_tests}
 use Rattle.bus_order.proofs.Words.{first_of_find, request_of_find, tail_of_find}
@@ -18,10 +20,12 @@ first_found items line =
     sym (first_of_find (map numbered items) line ∙ find_of_map numbered (λ request. request.line == line) items)
 
 pub tail_found : (items : List requests.Request) (line : ℕ)
-    → option_map numbered (find (λ request. request.line.number == line) (reverse items)) ≡ tail_of (map numbered items) line
+    → option_map numbered (find (λ request. request.line.number == line) (reverse items))
+    ≡ tail_of (map numbered items) line
 tail_found items line =
     let test : Request → Bool = λ request. request.line == line in
-    sym (tail_of_find (map numbered items) line ∙ ap (find test) (reverse_of_map numbered items) ∙ find_of_map numbered test (reverse items))
+    sym (tail_of_find (map numbered items) line ∙ ap (find test) (reverse_of_map numbered items)
+    ∙ find_of_map numbered test (reverse items))
 
 pub request_found : (items : List requests.Request) (hart : ℕ)
     → option_map numbered (find (λ request. request.hart.number == hart) items) ≡ request_of (map numbered items) hart
@@ -37,7 +41,8 @@ in_front_of_insert (request ∷ order) new = step (request.line == new.line) (in
     step : (same : Bool)
         → in_front_of order new ≡ insert order (position_or_len (λ request. request.line == new.line) order) new
         → cond same (new ∷ request ∷ order) (request ∷ in_front_of order new)
-        ≡ insert (request ∷ order) (cond (not same) (1 + position_or_len (λ request. request.line == new.line) order) 0) new
+        ≡ insert (request ∷ order) (cond (not same) (1 + position_or_len (λ request. request.line == new.line) order) 0)
+        new
     step true rest = refl
     step false rest = rw one-add (ap (λ l. request ∷ l) rest)
 
@@ -58,7 +63,9 @@ removed_remove (request ∷ order) hart once =
     step false is_own rest = rw one-add (ap (λ l. request ∷ l) rest)
 
 pub in_front_found : (items : List requests.Request) (new : requests.Request)
-    → map numbered (insert items (unwrap_or (position (λ request. request.line.number == new.line.number) items) (length items)) new)
+    →
+    map numbered
+    (insert items (unwrap_or (position (λ request. request.line.number == new.line.number) items) (length items)) new)
     ≡ in_front_of (map numbered items) (numbered new)
 in_front_found items new =
     let line = new.line.number in

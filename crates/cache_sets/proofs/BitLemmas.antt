@@ -1,5 +1,6 @@
 -- What bits say of reading and writing.
-use Rattle.std.proofs.Common.{◌≡◌, ℕ, zero, suc, ◌+◌, Bool, true, false, cond, eqb, ltb, ◌||◌, Option, None, Some, is_some, bit_and, bit_or, refl, ap}
+use Rattle.std.proofs.Common.{◌≡◌, ℕ, zero, suc, ◌+◌, Bool, true, false, cond, eqb, ltb, ◌||◌, Option, None, Some}
+use Rattle.std.proofs.Common.{is_some, bit_and, bit_or, refl, ap}
 use Rattle.std.proofs.Common.{sym, ◌∙◌, arith}
 use Rattle.std.specs.Option.{option_map_or}
 use Rattle.std.proofs.lemmas.Bool.Decides.{nat_tests}
@@ -26,13 +27,27 @@ write-with_read bits = ap (λ n. eqb n 2) (and_or_apart 2 bits.0 1 refl)
 -- a way that got a bit shows it
 pub shown_marked : (need : Need) (way : code.Way) → shown_way (marked_way need way) ≡ with_bit need (shown_way way)
 shown_marked Read way =
-    ap (λ read. record { line = way.line.number; letter = way.letter; read = read; write = has_need Write (with_need Read way.bits) })
+    ap
+    (λ read. record {
+      line = way.line.number;
+      letter = way.letter;
+      read = read;
+      write = has_need Write (with_need Read way.bits);
+    })
     (has_need-with_need_same Read way.bits)
-    ∙ ap (λ write. record { line = way.line.number; letter = way.letter; read = true; write = write }) (write-with_read way.bits)
+    ∙ ap (λ write. record { line = way.line.number; letter = way.letter; read = true; write = write })
+    (write-with_read way.bits)
 shown_marked Write way =
-    ap (λ write. record { line = way.line.number; letter = way.letter; read = has_need Read (with_need Write way.bits); write = write })
+    ap
+    (λ write. record {
+      line = way.line.number;
+      letter = way.letter;
+      read = has_need Read (with_need Write way.bits);
+      write = write;
+    })
     (has_need-with_need_same Write way.bits)
-    ∙ ap (λ read. record { line = way.line.number; letter = way.letter; read = read; write = true }) (read-with_write way.bits)
+    ∙ ap (λ read. record { line = way.line.number; letter = way.letter; read = read; write = true })
+    (read-with_write way.bits)
 
 -- bits that all have a name are what they show
 named_bits : (n : ℕ) → ltb 3 n ≡ false → (cond (eqb (bit_and n 1) 1) 1 0) + (cond (eqb (bit_and n 2) 2) 2 0) ≡ n
@@ -56,7 +71,8 @@ pub marks_in-bits_of : (way : Option Way) → marks_in (bits_of way) ≡ option_
 marks_in-bits_of None = refl
 marks_in-bits_of (Some way) = by_bits way.read way.write
   where
-    by_bits : (read write : Bool) → marks_in (bits_of_number (cond read 1 0 + cond write 2 0)) ≡ cond (read || write) 1 0
+    by_bits : (read write : Bool) → marks_in (bits_of_number (cond read 1 0 + cond write 2 0))
+        ≡ cond (read || write) 1 0
     by_bits true true = refl
     by_bits true false = refl
     by_bits false true = refl
@@ -73,7 +89,8 @@ writes_in-bits_of (Some way) = by_bits way.read way.write
     by_bits false false = refl
 
 -- and with the bit of a need
-marks_after : (need : Need) (read write : Bool) → marks_in (with_need need (bits_of_number (cond read 1 0 + cond write 2 0))) ≡ 1
+marks_after : (need : Need) (read write : Bool) →
+    marks_in (with_need need (bits_of_number (cond read 1 0 + cond write 2 0))) ≡ 1
 marks_after Read true true = refl
 marks_after Read true false = refl
 marks_after Read false true = refl
@@ -83,7 +100,8 @@ marks_after Write true false = refl
 marks_after Write false true = refl
 marks_after Write false false = refl
 
-pub marks_in-with_need : (need : Need) (way : Option Way) → is_some way ≡ true → marks_in (with_need need (bits_of way)) ≡ 1
+pub marks_in-with_need : (need : Need) (way : Option Way) → is_some way ≡ true →
+    marks_in (with_need need (bits_of way)) ≡ 1
 marks_in-with_need need None some = absurd cc
 marks_in-with_need need (Some way) some = marks_after need way.read way.write
 

@@ -13,7 +13,8 @@ use Rattle.residency.specs.Cache.{is_resident, marked, way_of, without_line, wri
 use Rattle.cache_sets.specs.Kept.{IsSound, residency_of, shown_line}
 use Rattle.residency.specs.Cache.{marks_of}
 use Rattle.cache_sets.proofs.BitLemmas.{marks_in-bits_of, marks_in-with_need, writes_in-bits_of, writes_in-with_need}
-use Rattle.residency.proofs.Laws.MarkLemmas.{mark_of, more_marks, one_if, part_of_total, total-le, total-marked, total-without_line, write_of}
+use Rattle.residency.proofs.Laws.MarkLemmas.{mark_of, more_marks, one_if, part_of_total, total-le, total-marked}
+use Rattle.residency.proofs.Laws.MarkLemmas.{total-without_line, write_of}
 
 -- each count is small
 one_if-le : (b : Bool) → one_if b ≤ 1
@@ -26,7 +27,8 @@ marks_in-le bits = one_if-le (has_need Read bits || has_need Write bits)
 pub writes_in-le : (bits : Bits) → writes_in bits ≤ 1
 writes_in-le bits = one_if-le (has_need Write bits)
 
-module _ (ways marks writes : ℕ) (cache : List (List code.Line)) (line : ℕ) (before : Bits) (sound : IsSound ways cache marks writes)
+module _ (ways marks writes : ℕ) (cache : List (List code.Line)) (line : ℕ) (before : Bits)
+    (sound : IsSound ways cache marks writes)
     (bits : before ≡ bits_of (way_of (residency_of cache) line)) where
   own_marks : marks_in before ≡ option_map_or mark_of (way_of (residency_of cache) line) 0
   own_marks = ap marks_in bits ∙ marks_in-bits_of (way_of (residency_of cache) line)
@@ -41,22 +43,41 @@ module _ (ways marks writes : ℕ) (cache : List (List code.Line)) (line : ℕ) 
   writes-below = omega (arith, own_writes, sound.written, part_of_total write_of (residency_of cache) line)
 
   places : length (residency_of cache) * ways ≤ 512
-  places = omega (arith, mul-le (length cache) ways 64 8 sound.sets_fit sound.ways_fit, ap (λ n. n * ways) (length-map cache (map shown_line)))
+  places =
+      omega (
+        arith,
+        mul-le (length cache) ways 64 8 sound.sets_fit sound.ways_fit,
+        ap (λ n. n * ways) (length-map cache (map shown_line)),
+      )
 
   pub few-marks : marks ≤ 512
   few-marks =
-      omega (arith, sound.marked, total-le mark_of ways (residency_of cache) sound.well_formed (λ way. one_if-le (is_marked way)), places)
+      omega (
+        arith,
+        sound.marked,
+        total-le mark_of ways (residency_of cache) sound.well_formed
+            (λ way. one_if-le (is_marked way)),
+        places,
+      )
 
   pub few-writes : writes ≤ 512
   few-writes =
-      omega (arith, sound.written, total-le write_of ways (residency_of cache) sound.well_formed (λ way. one_if-le way.write), places)
+      omega (
+        arith,
+        sound.written,
+        total-le write_of ways (residency_of cache) sound.well_formed
+            (λ way. one_if-le way.write),
+        places,
+      )
 
   -- after the line got a bit
-  module _ (need : Need) (after : Bits) (resident : is_resident (residency_of cache) line ≡ true) (bit : after ≡ with_need need before) where
+  module _ (need : Need) (after : Bits) (resident : is_resident (residency_of cache) line ≡ true)
+      (bit : after ≡ with_need need before) where
     pub marks-after_bit : marks - marks_in before + marks_in after ≡ marks_of (marked (residency_of cache) line need)
     marks-after_bit =
         let one : marks_in after ≡ 1 =
-        ap marks_in bit ∙ ap (λ b. marks_in (with_need need b)) bits ∙ marks_in-with_need need (way_of (residency_of cache) line) resident in
+        ap marks_in bit ∙ ap (λ b. marks_in (with_need need b)) bits
+        ∙ marks_in-with_need need (way_of (residency_of cache) line) resident in
         omega (
           arith,
           one,
@@ -67,9 +88,11 @@ module _ (ways marks writes : ℕ) (cache : List (List code.Line)) (line : ℕ) 
           marks-below,
         )
 
-    pub writes-after_bit : writes - writes_in before + writes_in after ≡ write_bits_of (marked (residency_of cache) line need)
+    pub writes-after_bit : writes - writes_in before + writes_in after
+        ≡ write_bits_of (marked (residency_of cache) line need)
     writes-after_bit =
-        let own : writes_in after ≡ option_map_or (λ w. write_of (with_bit need w)) (way_of (residency_of cache) line) 0 =
+        let own : writes_in after ≡ option_map_or (λ w. write_of (with_bit need w))
+        (way_of (residency_of cache) line) 0 =
         ap writes_in bit ∙ ap (λ b. writes_in (with_need need b)) bits
         ∙ writes_in-with_need need (way_of (residency_of cache) line) resident in
         omega (
@@ -84,8 +107,18 @@ module _ (ways marks writes : ℕ) (cache : List (List code.Line)) (line : ℕ) 
   -- after the line left
   pub marks-after_drop : marks - marks_in before ≡ marks_of (without_line (residency_of cache) line)
   marks-after_drop =
-      omega (arith, total-without_line mark_of ways (residency_of cache) line sound.well_formed, sound.marked, own_marks)
+      omega (
+        arith,
+        total-without_line mark_of ways (residency_of cache) line sound.well_formed,
+        sound.marked,
+        own_marks,
+      )
 
   pub writes-after_drop : writes - writes_in before ≡ write_bits_of (without_line (residency_of cache) line)
   writes-after_drop =
-      omega (arith, total-without_line write_of ways (residency_of cache) line sound.well_formed, sound.written, own_writes)
+      omega (
+        arith,
+        total-without_line write_of ways (residency_of cache) line sound.well_formed,
+        sound.written,
+        own_writes,
+      )

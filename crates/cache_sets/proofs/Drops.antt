@@ -21,8 +21,10 @@ use Rattle.cache_sets.proofs.Shown.{length-with}
 use Rattle.cache_sets.proofs.Slots.{one_at, owner-at, slot-sum}
 use Rattle.cache_sets.proofs.Totals.{total-without}
 
-module _ (ways marks writes owner : ℕ) (cache : List (List code.Line)) (line : ℕ) (sound : IsSound ways cache marks writes) (old new : Pooled)
-    (owes : IsLent old (shown_cache ways owner cache)) (l : code.Line) (there : line_at cache line ≡ Some l) (given : IsGiven old new l.slot)
+module _ (ways marks writes owner : ℕ) (cache : List (List code.Line)) (line : ℕ)
+    (sound : IsSound ways cache marks writes) (old new : Pooled)
+    (owes : IsLent old (shown_cache ways owner cache)) (l : code.Line) (there : line_at cache line ≡ Some l)
+    (given : IsGiven old new l.slot)
   where
     abbrev rest : List (List code.Line)
     rest = lines_without ways marks writes cache line sound
@@ -32,20 +34,24 @@ module _ (ways marks writes owner : ℕ) (cache : List (List code.Line)) (line :
     less g =
         omega (
           arith,
-          total-without (λ x. g x.slot) cache line (some ways marks writes cache line sound) (once ways marks writes cache line sound),
+          total-without (λ x. g x.slot) cache line (some ways marks writes cache line sound)
+              (once ways marks writes cache line sound),
           ap (λ x. option_map_or (λ (y : code.Line). g y.slot) x 0) there,
         )
 
     pub leaves-dropped : LeavesOthers owner old new
     leaves-dropped =
-        subst (λ o. LeavesOthers o old new) (owner-at old ways owner cache (some ways marks writes cache line sound) line l there owes)
+        subst (λ o. LeavesOthers o old new)
+        (owner-at old ways owner cache (some ways marks writes cache line sound) line l there owes)
         (leaves-given old new l.slot given)
 
     pub lent-dropped : IsLent new (shown_cache ways owner rest)
     lent-dropped = record {
       quota =
           ap (λ quotas. slice_index quotas owner) leaves-dropped.quotas ∙ owes.quota
-          ∙ ap (λ n. n * ways) (length-map cache (map shown_line) ∙ sym (length-with cache line _) ∙ sym (length-map rest (map shown_line)));
+          ∙ ap (λ n. n * ways)
+          (length-map cache (map shown_line) ∙ sym (length-with cache line _)
+          ∙ sym (length-map rest (map shown_line)));
       keeps =
           let slots = slots_of (shown_cache ways owner rest) in
           keeps-given old new owner slots l.slot

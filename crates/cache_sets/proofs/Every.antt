@@ -1,6 +1,7 @@
 -- A step that changes the way of every line of a cache, and leaves no bits.
 use Rattle.std.specs.Int.{IsPowerOfTwo}
-use Rattle.std.proofs.Common.{◌≡◌, ℕ, suc, ◌%◌, ◌<◌, Bool, true, false, cond, ltb, List, [], ◌∷◌, length, map, get_or, Option, None, Some, option_map}
+use Rattle.std.proofs.Common.{◌≡◌, ℕ, suc, ◌%◌, ◌<◌, Bool, true, false, cond, ltb, List, [], ◌∷◌, length, map, get_or}
+use Rattle.std.proofs.Common.{Option, None, Some, option_map}
 use Rattle.std.proofs.Common.{refl, ap, sym, subst, ◌∙◌, arith}
 use Rattle.std.specs.Prelude.{Vec}
 use Rattle.std.specs.Vec.{with_items}
@@ -17,7 +18,8 @@ use Rattle.residency.specs.Cache.{bit_in, cleared, committed, committed_way as s
 use Rattle.cache_sets.specs.Cached.{copy_in, copy_with_letter}
 use Rattle.cache_sets.specs.Calls.{IsCleared, IsCommitted}
 use Rattle.residency.specs.Keyed.{found}
-use Rattle.cache_sets.specs.Kept.{AreChanged, HaveRoom, IsSound, CacheStands, cleared_way, committed_way, line_at, lines_of, number_of, residency_of}
+use Rattle.cache_sets.specs.Kept.{AreChanged, HaveRoom, IsSound, CacheStands, cleared_way, committed_way, line_at}
+use Rattle.cache_sets.specs.Kept.{lines_of, number_of, residency_of}
 use Rattle.cache_sets.specs.Kept.{set_at, shown_cache, shown_line, shown_way, with_way}
 use Rattle.residency.specs.Cache.{marks_of}
 use Rattle.residency.specs.Residency.{Way, without_bits}
@@ -26,7 +28,8 @@ use Rattle.residency.specs.WellFormed.{IsWellFormed}
 use Rattle.cache_sets.proofs.After.{between}
 use Rattle.cache_sets.proofs.Changes.{some, unnamed}
 use Rattle.residency.proofs.Laws.KeyedLemmas.{found-map}
-use Rattle.residency.proofs.Laws.MarkLemmas.{marks_of-cleared, marks_of-committed, one_if, write_bits_of-cleared, write_bits_of-committed}
+use Rattle.residency.proofs.Laws.MarkLemmas.{marks_of-cleared, marks_of-committed, one_if, write_bits_of-cleared}
+use Rattle.residency.proofs.Laws.MarkLemmas.{write_bits_of-committed}
 use Rattle.cache_sets.proofs.Shown.{copy_of, copy_shown, way_of_shown}
 use Rattle.cache_sets.proofs.Slots.{SameSlots, lent-moved}
 use Rattle.cache_sets.proofs.Totals.{total-map, total-none}
@@ -42,12 +45,20 @@ lines-changed change (set ∷ sets) (other ∷ others) changed =
     ap (λ lines. lines ∷ lines_of others) (changed.each 0 set (omega arith)).lines
     ∙ ap (λ rest. map (with_way change) set.lines.items ∷ rest)
     (lines-changed change sets others
-    (record { count = omega (arith, changed.count); each = λ k d within. changed.each (suc k) d (omega (arith, within)) }))
+    (record {
+      count = omega (arith, changed.count);
+      each = λ k d within. changed.each (suc k) d (omega (arith, within));
+    }))
 
-pub room-changed : (change : known.Way → known.Way) (ways : ℕ) (old new : List Set) → AreChanged change old new → HaveRoom ways old
+pub room-changed : (change : known.Way → known.Way) (ways : ℕ) (old new : List Set) → AreChanged change old new →
+    HaveRoom ways old
     → HaveRoom ways new
 room-changed change ways old new changed room k d within =
-    omega (arith, room k d (omega (arith, within, changed.count)), (changed.each k d (omega (arith, within, changed.count))).room)
+    omega (
+      arith,
+      room k d (omega (arith, within, changed.count)),
+      (changed.each k d (omega (arith, within, changed.count))).room,
+    )
 
 -- a change of a way in the code, and of the way that it shows
 record Clears (change : known.Way → known.Way) (shown_change : Way → Way) : Type 0 where
@@ -56,7 +67,8 @@ record Clears (change : known.Way → known.Way) (shown_change : Way → Way) : 
   named : (way : known.Way) → ltb 3 (change way).bits.0 ≡ false
 
 module _ (change : known.Way → known.Way) (shown_change : Way → Way) (clears : Clears change shown_change) where
-  lines_shown : (lines : List code.Line) → map shown_line (map (with_way change) lines) ≡ map shown_change (map shown_line lines)
+  lines_shown : (lines : List code.Line) →
+      map shown_line (map (with_way change) lines) ≡ map shown_change (map shown_line lines)
   lines_shown [] = refl
   lines_shown (l ∷ lines) =
       ap (λ w. w ∷ map shown_line (map (with_way change) lines)) (clears.shown l.way)
@@ -72,11 +84,15 @@ module _ (change : known.Way → known.Way) (shown_change : Way → Way) (clears
   line_at-every : (cache : List (List code.Line)) (line : ℕ) → 0 < length cache
       → line_at (map (map (with_way change)) cache) line ≡ option_map (with_way change) (line_at cache line)
   line_at-every cache line some =
-      ap (λ n. found number_of (get_or (map (map (with_way change)) cache) (line % n) []) line) (length-map cache (map (with_way change)))
-      ∙ ap (λ set. found number_of set line) (get_or-map (map (with_way change)) cache (line % length cache) [] [] (omega arith))
-      ∙ found-map number_of number_of (with_way change) (λ l. ap (λ n. n.number) (clears.line l.way)) (set_at cache line) line
+      ap (λ n. found number_of (get_or (map (map (with_way change)) cache) (line % n) []) line)
+      (length-map cache (map (with_way change)))
+      ∙ ap (λ set. found number_of set line)
+      (get_or-map (map (with_way change)) cache (line % length cache) [] [] (omega arith))
+      ∙ found-map number_of number_of (with_way change) (λ l. ap (λ n. n.number) (clears.line l.way))
+      (set_at cache line) line
 
-  sound-every : (ways marks writes : ℕ) (cache : List (List code.Line)) (residency : List (List Way)) → IsSound ways cache marks writes
+  sound-every : (ways marks writes : ℕ) (cache : List (List code.Line)) (residency : List (List Way)) →
+      IsSound ways cache marks writes
       → map (map shown_change) (residency_of cache) ≡ residency → IsWellFormed ways residency → 0 ≡ marks_of residency
       → 0 ≡ write_bits_of residency → IsSound ways (map (map (with_way change)) cache) 0 0
   sound-every ways marks writes cache residency sound is kept marked written =
@@ -104,7 +120,8 @@ module _ (change : known.Way → known.Way) (shown_change : Way → Way) (clears
       both None = refl
       both (Some l) = refl
 
-pub slots-every : (change : known.Way → known.Way) (cache : List (List code.Line)) → SameSlots cache (map (map (with_way change)) cache)
+pub slots-every : (change : known.Way → known.Way) (cache : List (List code.Line)) →
+    SameSlots cache (map (map (with_way change)) cache)
 slots-every change cache g = total-map (λ l. g l.slot) (with_way change) cache
 
 -- no line has a bit
@@ -121,8 +138,10 @@ copy_committed : (pool : Pooled) (l : Option code.Line) (write : Bool) → bit_i
     ≡ cond write (option_map (copy_with_letter M) (option_map (copy_of pool) l)) (option_map (copy_of pool) l)
 copy_committed pool None true is = refl
 copy_committed pool None false is = refl
-copy_committed pool (Some l) true is = ap (λ b. Some (record { letter = cond b M l.way.letter; bytes = pools.bytes_of pool l.slot })) is
-copy_committed pool (Some l) false is = ap (λ b. Some (record { letter = cond b M l.way.letter; bytes = pools.bytes_of pool l.slot })) is
+copy_committed pool (Some l) true is =
+    ap (λ b. Some (record { letter = cond b M l.way.letter; bytes = pools.bytes_of pool l.slot })) is
+copy_committed pool (Some l) false is =
+    ap (λ b. Some (record { letter = cond b M l.way.letter; bytes = pools.bytes_of pool l.slot })) is
 
 module _ (ways marks writes : ℕ) (cache : List (List code.Line)) (sound : IsSound ways cache marks writes) where
   pub sound-cleared : IsSound ways (map (map (with_way cleared_way)) cache) 0 0
@@ -143,7 +162,8 @@ module _ (ways marks writes : ℕ) (cache : List (List code.Line)) (sound : IsSo
 
   pub sound-committed : IsSound ways (map (map (with_way committed_way)) cache) 0 0
   sound-committed =
-      sound-every committed_way spec_committed commits_bits ways marks writes cache (committed (residency_of cache)) sound refl
+      sound-every committed_way spec_committed commits_bits ways marks writes cache
+      (committed (residency_of cache)) sound refl
       (well_formed-committed ways (residency_of cache) sound.well_formed)
       (sym (marks_of-committed (residency_of cache))) (sym (write_bits_of-committed (residency_of cache)))
 
@@ -152,9 +172,11 @@ module _ (ways marks writes : ℕ) (cache : List (List code.Line)) (sound : IsSo
       ≡ cond write (option_map (copy_with_letter M) (copy_in (lent pool (shown_cache ways owner cache)) line))
       (copy_in (lent pool (shown_cache ways owner cache)) line)
   copy_after owner pool line write is =
-      copy-every committed_way spec_committed commits_bits pool ways owner cache line (some ways marks writes cache line sound)
+      copy-every committed_way spec_committed commits_bits pool ways owner cache line
+      (some ways marks writes cache line sound)
       ∙ copy_committed pool (line_at cache line) write (ap (bit_in Write) (sym (way_of_shown cache line)) ∙ is)
-      ∙ ap (λ copy. cond write (option_map (copy_with_letter M) copy) copy) (sym (copy_shown pool ways owner cache line))
+      ∙ ap (λ copy. cond write (option_map (copy_with_letter M) copy) copy)
+      (sym (copy_shown pool ways owner cache line))
 
   pub is_committed : (owner : ℕ) (pool : Pooled) → IsCommitted (lent pool (shown_cache ways owner cache))
       (lent pool (shown_cache ways owner (map (map (with_way committed_way)) cache)))
@@ -188,7 +210,8 @@ module _ {ways owner marks writes : ℕ} (sets : Vec Set Global) {slice : List S
     after_is : after ≡ shown_cache ways owner (map (map (with_way change)) cache)
     after_is = ap (shown_cache ways owner) lines_are
 
-    stands-after : IsSound ways (map (map (with_way change)) cache) 0 0 → CacheStands ways (with_items sets new).items 0 0
+    stands-after : IsSound ways (map (map (with_way change)) cache) 0 0 →
+        CacheStands ways (with_items sets new).items 0 0
     stands-after sound = record {
       binary = subst IsPowerOfTwo (sym (ap length whole ∙ changed.count ∙ ap length same)) stands.binary;
       sound = subst (λ c. IsSound ways c 0 0) (sym lines_are) sound;
@@ -198,7 +221,8 @@ module _ {ways owner marks writes : ℕ} (sets : Vec Set Global) {slice : List S
     lent-after : (pool : Pooled) → IsLent pool v → IsLent pool after
     lent-after pool =
         between (λ a b. IsLent pool a → IsLent pool b) _ _ _ _ is after_is
-        (lent-moved pool ways owner cache (map (map (with_way change)) cache) (length-map cache (map (with_way change))) (slots-every change cache))
+        (lent-moved pool ways owner cache (map (map (with_way change)) cache) (length-map cache (map (with_way change)))
+        (slots-every change cache))
 
   module _ (changed : AreChanged cleared_way slice new) where
     pub stands-cleared : CacheStands ways (with_items sets new).items 0 0

@@ -1,5 +1,6 @@
 -- The fields of a cache as a line comes, and after it came.
-use Rattle.std.proofs.Common.{◌≡◌, ◌≢◌, ℕ, ◌+◌, ◌*◌, ◌≤◌, ◌<◌, true, false, not, ltb, List, [], ◌∷◌, length, map, Option, None, Some, option_map}
+use Rattle.std.proofs.Common.{◌≡◌, ◌≢◌, ℕ, ◌+◌, ◌*◌, ◌≤◌, ◌<◌, true, false, not, ltb, List, [], ◌∷◌, length, map}
+use Rattle.std.proofs.Common.{Option, None, Some, option_map}
 use Rattle.std.proofs.Common.{is_some, vec_capacity, refl, ap, sym, subst, ◌∙◌, arith}
 use Rattle.std.specs.Prelude.{◌↔◌, IsNone, slice_set}
 use Rattle.std.specs.List.{sum_by}
@@ -23,13 +24,15 @@ use Rattle.cache_sets.specs.declared.way.Way as known
 use Rattle.residency.specs.Cache.{is_resident, room_of, set_of, way_of}
 use Rattle.cache_sets.specs.Calls.{IsFilledWith}
 use Rattle.residency.specs.Keyed.{found}
-use Rattle.cache_sets.specs.Kept.{HasRoom, IsSound, IsVacated, MakesRoom, MayVacate, CacheStands, left_by, lines_of, new_way, number_of, residency_of}
+use Rattle.cache_sets.specs.Kept.{HasRoom, IsSound, IsVacated, MakesRoom, MayVacate, CacheStands, left_by, lines_of}
+use Rattle.cache_sets.specs.Kept.{new_way, number_of, residency_of}
 use Rattle.cache_sets.specs.Kept.{set_at, shown_cache, shown_line, total}
 use Rattle.residency.specs.Residency.{Way, evicted_in, room_in, way_in}
 use Rattle.cache_sets.specs.Slotted.{IsLent, Slotted, lent}
 use Rattle.cache_sets.proofs.After.{after_is, between, stands-after}
 use Rattle.cache_sets.proofs.Changes.{once, some}
-use Rattle.cache_sets.proofs.Fills.{IsVacancy, Leaves, filled_lines, filled_set, gone_at, is_filled, leaves-filled, lent-filled, sound-filled, vacancy}
+use Rattle.cache_sets.proofs.Fills.{IsVacancy, Leaves, filled_lines, filled_set, gone_at, is_filled, leaves-filled}
+use Rattle.cache_sets.proofs.Fills.{lent-filled, sound-filled, vacancy}
 use Rattle.residency.proofs.Laws.MarkLemmas as marks_of_all
 use Rattle.cache_sets.proofs.Reached.{Reaches, lines-reached, room-reached}
 use Rattle.residency.proofs.Laws.ResidencyLemmas.{evicted_in-some}
@@ -38,7 +41,8 @@ use Rattle.cache_sets.proofs.Slots.{count-shown, out-at, owner-at}
 use Rattle.cache_sets.proofs.Totals.{total-filled}
 
 -- a sum over what lines show
-total-shown : (f : Way → ℕ) (cache : List (List code.Line)) → marks_of_all.total f (residency_of cache) ≡ total (λ l. f (shown_line l)) cache
+total-shown : (f : Way → ℕ) (cache : List (List code.Line)) →
+    marks_of_all.total f (residency_of cache) ≡ total (λ l. f (shown_line l)) cache
 total-shown f [] = refl
 total-shown f (set ∷ cache) =
     omega (
@@ -50,7 +54,8 @@ total-shown f (set ∷ cache) =
     )
 
 -- nothing leaves exactly where the set has fewer lines than ways
-none_of : (ways : ℕ) (set : List Way) (line : ℕ) (evicted : Option Way) → evicted ≡ evicted_in ways set → room_in ways set line ≡ true
+none_of : (ways : ℕ) (set : List Way) (line : ℕ) (evicted : Option Way) → evicted ≡ evicted_in ways set →
+    room_in ways set line ≡ true
     → way_in set line ≡ None → is_some evicted ≡ not (ltb (length set) ways)
 none_of ways set line evicted is room absent = ap is_some is ∙ evicted_in-some ways set line room absent
 
@@ -60,12 +65,16 @@ told_some told None show is = ap is_some is
 told_some told (Some l) show is = ap is_some is
 
 exactly_fewer : (told : Option Evicted) (n ways : ℕ) → is_some told ≡ not (ltb n ways) → IsNone told ↔ (n < ways)
-exactly_fewer told n ways is = (λ none. grind (arith, nat_tests, none, is), λ fewer. grind (arith, nat_tests, fewer, is))
+exactly_fewer told n ways is =
+    (λ none. grind (arith, nat_tests, none, is), λ fewer. grind (arith, nat_tests, fewer, is))
 
-module _ {ways owner marks writes : ℕ} {sets : List Set} {v : Slotted} (line : LineAddr) {number : ℕ} {old made : Set} {letter : Letter}
-    {gone : Option code.Line} {before : Pooled} (stands : CacheStands ways sets marks writes) (is : shown_cache ways owner (lines_of sets) ≡ v)
+module _ {ways owner marks writes : ℕ} {sets : List Set} {v : Slotted} (line : LineAddr) {number : ℕ} {old made : Set}
+    {letter : Letter}
+    {gone : Option code.Line} {before : Pooled} (stands : CacheStands ways sets marks writes)
+    (is : shown_cache ways owner (lines_of sets) ≡ v)
     (at : Reaches sets line.number number old) (makes : MakesRoom ways old made gone)
-    (room : room_of v.ways v.residency line.number ≡ true) (absent : is_resident v.residency line.number ≡ false) (valid : letter ≢ I)
+    (room : room_of v.ways v.residency line.number ≡ true) (absent : is_resident v.residency line.number ≡ false)
+    (valid : letter ≢ I)
     (owes : IsLent before v) where
   abbrev cache : List (List code.Line)
   cache = lines_of sets
@@ -99,8 +108,12 @@ module _ {ways owner marks writes : ℕ} {sets : List Set} {v : Slotted} (line :
 
   held : (l : code.Line) → gone ≡ Some l → (is_out before l.slot ≡ true) × (owner_of l.slot ≡ owner)
   held l same =
-      let there = gone_at ways marks writes cache line letter gone stands.sound it_leaves has_room not_there valid l.slot l same in
-      (out-at before ways owner cache some_set (number_of l) l there owes_shown, owner-at before ways owner cache some_set (number_of l) l there owes_shown)
+      let there =
+      gone_at ways marks writes cache line letter gone stands.sound it_leaves has_room not_there valid
+      l.slot l same in (
+        out-at before ways owner cache some_set (number_of l) l there owes_shown,
+        owner-at before ways owner cache some_set (number_of l) l there owes_shown,
+      )
 
   abbrev gone_count : Option code.Line → ℕ
   gone_count g = option_map_or (λ l. 1) g 0
@@ -108,10 +121,12 @@ module _ {ways owner marks writes : ℕ} {sets : List Set} {v : Slotted} (line :
   -- with a line more there are no more lines than places
   module _ (slot : Slot) where
     abbrev lines_then : List (List code.Line)
-    lines_then = filled_lines ways marks writes cache line letter gone stands.sound it_leaves has_room not_there valid slot
+    lines_then =
+        filled_lines ways marks writes cache line letter gone stands.sound it_leaves has_room not_there valid slot
 
     sound_then : IsSound ways lines_then marks writes
-    sound_then = sound-filled ways marks writes cache line letter gone stands.sound it_leaves has_room not_there valid slot
+    sound_then =
+        sound-filled ways marks writes cache line letter gone stands.sound it_leaves has_room not_there valid slot
 
     one_more : gone ≡ None → total (λ l. 1) lines_then ≡ total (λ l. 1) cache + 1
     one_more none =
@@ -129,7 +144,8 @@ module _ {ways owner marks writes : ℕ} {sets : List Set} {v : Slotted} (line :
           marks_of_all.total-le (λ way. 1) ways (residency_of lines_then) sound_then.well_formed (λ way. omega arith),
           total-shown (λ way. 1) lines_then,
           ap (λ n. n * ways) (length-map lines_then (map shown_line) ∙ length-with cache line.number
-              (filled_set ways marks writes cache line letter gone stands.sound it_leaves has_room not_there valid slot)),
+              (filled_set ways marks writes cache line letter gone stands.sound it_leaves has_room
+              not_there valid slot)),
         )
 
     pub set_then : length (left_by (set_at cache line.number) gone) + 1 ≤ ways
@@ -152,12 +168,16 @@ module _ {ways owner marks writes : ℕ} {sets : List Set} {v : Slotted} (line :
           let few = fits_then no_slot in
           let more = one_more no_slot none in
           let count = owes_shown.keeps.all in
-          let quota : quota_of before owner ≡ length cache * ways = owes_shown.quota ∙ ap (λ n. n * ways) (length-map cache (map shown_line)) in
-          let all = count-shown before ways owner cache in
-          (owner-there before owner (omega (arith, few, more, quota)), λ same. omega (arith, few, more, quota, count, all, same))
+          let quota : quota_of before owner ≡ length cache * ways =
+          owes_shown.quota ∙ ap (λ n. n * ways) (length-map cache (map shown_line)) in
+          let all = count-shown before ways owner cache in (
+            owner-there before owner (omega (arith, few, more, quota)),
+            λ same. omega (arith, few, more, quota, count, all, same),
+          )
       by_line (Some l) same = (held l same).0
 
-  module _ (between_them : Pooled) (slot : Slot) (told : Option Evicted) (vacated : IsVacated owner before between_them gone slot told) where
+  module _ (between_them : Pooled) (slot : Slot) (told : Option Evicted)
+      (vacated : IsVacated owner before between_them gone slot told) where
     vacant : IsVacancy owner before between_them gone slot told
     vacant = vacancy owner before between_them gone slot told held vacated
 
@@ -174,8 +194,10 @@ module _ {ways owner marks writes : ℕ} {sets : List Set} {v : Slotted} (line :
           makes.room,
         )
 
-    module _ (last : Set) {way : known.Way} {after : Pooled} {bytes : List ℕ} (written : IsWritten between_them after slot bytes)
-        (way_is : way ≡ new_way line letter) (put : last.lines.items ≡ record { way = way; slot = slot } ∷ made.lines.items)
+    module _ (last : Set) {way : known.Way} {after : Pooled} {bytes : List ℕ}
+        (written : IsWritten between_them after slot bytes)
+        (way_is : way ≡ new_way line letter)
+        (put : last.lines.items ≡ record { way = way; slot = slot } ∷ made.lines.items)
         (same : HasRoom made last) where
       abbrev filling : List code.Line → List code.Line
       filling lines = record { way = new_way line letter; slot = slot } ∷ left_by lines gone
@@ -187,26 +209,31 @@ module _ {ways owner marks writes : ℕ} {sets : List Set} {v : Slotted} (line :
       pub stands-filled : CacheStands ways (slice_set sets number last) marks writes
       stands-filled = stands-after last stands is at (same ∙ makes.room) filling does marks writes (sound_then slot)
 
-      pub filled-after : IsFilledWith (lent before v) (lent after (shown_cache ways owner (lines_of (slice_set sets number last)))) line.number
+      pub filled-after : IsFilledWith (lent before v)
+          (lent after (shown_cache ways owner (lines_of (slice_set sets number last)))) line.number
           letter bytes told
       filled-after =
           between (λ a b. IsFilledWith (lent before a) (lent after b) line.number letter bytes told) _ _ _ _ is
           (after_is last stands is at (same ∙ makes.room) filling does)
-          (is_filled ways marks writes cache line letter gone stands.sound it_leaves has_room not_there valid slot owner before between_them after
+          (is_filled ways marks writes cache line letter gone stands.sound it_leaves has_room not_there valid slot owner
+          before between_them after
           told bytes owes_shown vacant written)
 
       pub lent-after : IsLent after (shown_cache ways owner (lines_of (slice_set sets number last)))
       lent-after =
           subst (IsLent after) (sym (after_is last stands is at (same ∙ makes.room) filling does))
-          (lent-filled ways marks writes cache line letter gone stands.sound it_leaves has_room not_there valid slot owner before between_them after
+          (lent-filled ways marks writes cache line letter gone stands.sound it_leaves has_room not_there valid slot
+          owner before between_them after
           told bytes owes_shown vacant written)
 
       pub leaves-after : LeavesOthers owner before after
       leaves-after =
-          leaves-filled ways marks writes cache line letter gone stands.sound it_leaves has_room not_there valid slot owner before between_them after
+          leaves-filled ways marks writes cache line letter gone stands.sound it_leaves has_room not_there valid slot
+          owner before between_them after
           told bytes owes_shown vacant written
 
       pub none-leaves : IsNone told ↔ (length (set_of v.residency line.number) < v.ways)
       none-leaves =
           subst (λ w. IsNone told ↔ (length (set_of w.residency line.number) < w.ways)) is
-          (exactly_fewer told (length (set_of (residency_of cache) line.number)) ways (told_some told gone _ vacant.told_is ∙ leaves_some))
+          (exactly_fewer told (length (set_of (residency_of cache) line.number)) ways
+          (told_some told gone _ vacant.told_is ∙ leaves_some))

@@ -1,5 +1,6 @@
 -- A line comes, and another one leaves for it, if one does: the cache and its pool after it.
-use Rattle.std.proofs.Common.{◌≡◌, ◌≢◌, ℕ, ◌+◌, ◌*◌, ◌%◌, ◌<◌, true, false, List, [], ◌∷◌, length, map, get_or, Option, None, Some, option_map}
+use Rattle.std.proofs.Common.{◌≡◌, ◌≢◌, ℕ, ◌+◌, ◌*◌, ◌%◌, ◌<◌, true, false, List, [], ◌∷◌, length, map, get_or, Option}
+use Rattle.std.proofs.Common.{None, Some, option_map}
 use Rattle.std.proofs.Common.{is_some, refl, ap, sym, subst, ◌∙◌, arith}
 use Rattle.std.specs.Option.{option_map_or}
 use Rattle.std.specs.List.{sum_by}
@@ -24,28 +25,33 @@ use Rattle.residency.specs.Cache.{filled_with, is_resident, room_of, set_of}
 use Rattle.cache_sets.specs.Cached.{copy_in}
 use Rattle.cache_sets.specs.Calls.{IsFilledWith}
 use Rattle.residency.specs.Keyed.{found}
-use Rattle.cache_sets.specs.Kept.{IsSound, IsVacated, left_by, line_at, new_way, number_of, residency_of, set_at, shown_cache, shown_line, with_lines}
+use Rattle.cache_sets.specs.Kept.{IsSound, IsVacated, left_by, line_at, new_way, number_of, residency_of, set_at}
+use Rattle.cache_sets.specs.Kept.{shown_cache, shown_line, with_lines}
 use Rattle.residency.specs.Residency.{Way, evicted_in, filled_in, left_in, way_in}
 use Rattle.cache_sets.specs.Slotted.{IsLent, lent, slots_of}
 use Rattle.cache_sets.proofs.Changes.{dropped_shown, once, residency-after, some, sound-with, unnamed}
 use Rattle.residency.proofs.Laws.KeyedLemmas.{found-without_other, found-without_same, length-sum_by, mapped}
 use Rattle.residency.proofs.Laws.MarkLemmas.{marks_of-filled_with, write_bits_of-filled_with}
-use Rattle.cache_sets.proofs.Shown.{copy_of, copy_shown, length-with, line_at-with_other, line_at-with_same, once_at, set_of_shown, way_in_shown, way_of_shown}
+use Rattle.cache_sets.proofs.Shown.{copy_of, copy_shown, length-with, line_at-with_other, line_at-with_same, once_at}
+use Rattle.cache_sets.proofs.Shown.{set_of_shown, way_in_shown, way_of_shown}
 use Rattle.cache_sets.proofs.Slots.{one_at, out-at, slot-sum, slots-apart}
 use Rattle.cache_sets.proofs.Totals.{total-filled}
 use Rattle.residency.proofs.Laws.WellFormedLemmas.{fresh, well_formed-filled_with}
 
 -- a slot for a line that comes, whether it was taken or is that of the line that left
-pub record IsVacancy (owner : ℕ) (old new : Pooled) (gone : Option code.Line) (slot : Slot) (told : Option Evicted) : Type 0 where
+pub record IsVacancy (owner : ℕ) (old new : Pooled) (gone : Option code.Line) (slot : Slot)
+    (told : Option Evicted) : Type 0 where
   pub leaves : LeavesOthers owner old new
   pub out : is_out new slot ≡ true
   pub mine : owner_of slot ≡ owner
-  pub told_is : told ≡ option_map (λ l. record { line = l.way.line; letter = l.way.letter; bytes = bytes_of old l.slot }) gone
+  pub told_is : told
+      ≡ option_map (λ l. record { line = l.way.line; letter = l.way.letter; bytes = bytes_of old l.slot }) gone
   pub bytes : (s : Slot) → bytes_of new s ≡ bytes_of old s
   pub stays : (s : Slot) → is_out old s ≡ true → is_out new s ≡ true
   pub apart : (s : Slot) → is_out old s ≡ true → ((l : code.Line) → gone ≡ Some l → s ≢ l.slot) → s ≢ slot
   pub keeps : (slots others : List Slot) → Keeps old owner slots
-      → ((g : Slot → ℕ) → sum_by g others + option_map_or (λ l. g l.slot) gone 0 ≡ sum_by g slots + g slot) → Keeps new owner others
+      → ((g : Slot → ℕ) → sum_by g others + option_map_or (λ l. g l.slot) gone 0 ≡ sum_by g slots + g slot) →
+      Keeps new owner others
 
 pub vacancy : (owner : ℕ) (old new : Pooled) (gone : Option code.Line) (slot : Slot) (told : Option Evicted)
     → ((l : code.Line) → gone ≡ Some l → (is_out old l.slot ≡ true) × (owner_of l.slot ≡ owner))
@@ -57,7 +63,8 @@ vacancy owner old new None slot told held is = record {
   told_is = is.1;
   bytes = is.0.bytes;
   stays = λ s out. stays_out old new owner slot s is.0 out;
-  apart = λ s out others same. let never = sym (ap (is_out old) same) ∙ out in grind (arith, nat_tests, never, is.0.was_free);
+  apart = λ s out others same. let never = sym (ap (is_out old) same) ∙ out in
+      grind (arith, nat_tests, never, is.0.was_free);
   keeps = λ slots others keeps same.
       keeps-permuted new owner (slot ∷ slots) others (keeps-taken old new owner slots slot keeps is.0)
       (omega (arith, length-sum_by others, length-sum_by slots, same (λ s. 1)))
@@ -84,7 +91,8 @@ left_by_shown : (lines : List code.Line) (gone : Option code.Line)
 left_by_shown lines None = refl
 left_by_shown lines (Some l) = sym (dropped_shown lines (number_of l))
 
-found-left_by : (lines : List code.Line) (gone : Option code.Line) (l : ℕ) → ((x : code.Line) → gone ≡ Some x → l ≢ number_of x)
+found-left_by : (lines : List code.Line) (gone : Option code.Line) (l : ℕ) →
+    ((x : code.Line) → gone ≡ Some x → l ≢ number_of x)
     → found number_of (left_by lines gone) l ≡ found number_of lines l
 found-left_by lines None l stays = refl
 found-left_by lines (Some x) l stays = found-without_other number_of lines (number_of x) l (stays x refl)
@@ -94,9 +102,11 @@ pub record Leaves (ways : ℕ) (cache : List (List code.Line)) (line : ℕ) (gon
   pub evicted : option_map shown_line gone ≡ evicted_in ways (map shown_line (set_at cache line))
   pub there : (l : code.Line) → gone ≡ Some l → found number_of (set_at cache line) (number_of l) ≡ Some l
 
-module _ (ways marks writes : ℕ) (cache : List (List code.Line)) (line : LineAddr) (letter : Letter) (gone : Option code.Line)
+module _ (ways marks writes : ℕ) (cache : List (List code.Line)) (line : LineAddr) (letter : Letter)
+    (gone : Option code.Line)
     (sound : IsSound ways cache marks writes) (leaves : Leaves ways cache line.number gone)
-    (room : room_of ways (residency_of cache) line.number ≡ true) (absent : is_resident (residency_of cache) line.number ≡ false)
+    (room : room_of ways (residency_of cache) line.number ≡ true)
+    (absent : is_resident (residency_of cache) line.number ≡ false)
     (valid : letter ≢ I) (slot : Slot) where
   abbrev new_line : code.Line
   new_line = record { way = new_way line letter; slot = slot }
@@ -112,18 +122,22 @@ module _ (ways marks writes : ℕ) (cache : List (List code.Line)) (line : LineA
 
   residency-filled : residency_of filled_lines ≡ filled_with ways (residency_of cache) line.number letter
   residency-filled =
-      residency-after ways marks writes cache line.number sound filled_set (λ set. filled_in ways set (fresh line.number letter))
+      residency-after ways marks writes cache line.number sound filled_set
+      (λ set. filled_in ways set (fresh line.number letter))
       (ap (λ rest. fresh line.number letter ∷ rest)
-      (ap (left_in (map shown_line (set_at cache line.number))) (sym leaves.evicted) ∙ sym (left_by_shown (set_at cache line.number) gone)))
+      (ap (left_in (map shown_line (set_at cache line.number))) (sym leaves.evicted)
+      ∙ sym (left_by_shown (set_at cache line.number) gone)))
 
   pub sound-filled : IsSound ways filled_lines marks writes
   sound-filled =
-      sound-with ways marks writes cache line.number sound filled_set (filled_with ways (residency_of cache) line.number letter) marks writes
+      sound-with ways marks writes cache line.number sound filled_set
+      (filled_with ways (residency_of cache) line.number letter) marks writes
       residency-filled
       (well_formed-filled_with ways (residency_of cache) line.number letter room absent valid sound.well_formed)
       (omega (
         arith,
-        total-filled unnamed cache line.number some_set (once ways marks writes cache line.number sound) gone new_line leaves.there,
+        total-filled unnamed cache line.number some_set (once ways marks writes cache line.number sound) gone
+            new_line leaves.there,
         sound.named,
       ))
       (sound.marked ∙ sym (marks_of-filled_with ways (residency_of cache) line.number letter sound.well_formed))
@@ -138,7 +152,8 @@ module _ (ways marks writes : ℕ) (cache : List (List code.Line)) (line : LineA
       by_line (Some l) none = absurd cc
 
   -- what is behind it
-  behind : (l : ℕ) → l ≢ line.number → found number_of filled_set l ≡ found number_of (left_by (set_at cache line.number) gone) l
+  behind : (l : ℕ) → l ≢ line.number →
+      found number_of filled_set l ≡ found number_of (left_by (set_at cache line.number) gone) l
   behind l other = grind (arith, nat_tests)
 
   -- what left was another line of the same set
@@ -150,7 +165,8 @@ module _ (ways marks writes : ℕ) (cache : List (List code.Line)) (line : LineA
     gone_home : number_of l % length cache ≡ line.number % length cache
     gone_home =
         let there : way_in (set_of (residency_of cache) line.number) (number_of l) ≡ Some (shown_line l) =
-        ap (λ set. way_in set (number_of l)) (set_of_shown cache line.number) ∙ way_in_shown (set_at cache line.number) (number_of l)
+        ap (λ set. way_in set (number_of l)) (set_of_shown cache line.number)
+        ∙ way_in_shown (set_at cache line.number) (number_of l)
         ∙ ap (option_map shown_line) (leaves.there l is) in
         ap (λ k. number_of l % k) (sym (length-map cache (map shown_line)))
         ∙ sound.well_formed.home line.number (number_of l) (shown_line l) there
@@ -169,12 +185,14 @@ module _ (ways marks writes : ℕ) (cache : List (List code.Line)) (line : LineA
   new_at : line_at filled_lines line.number ≡ Some new_line
   new_at = line_at-with_same cache line.number filled_set line.number some_set refl ∙ grind (arith, nat_tests)
 
-  other_at : (l : ℕ) → l ≢ line.number → ((x : code.Line) → gone ≡ Some x → l ≢ number_of x) → line_at filled_lines l ≡ line_at cache l
+  other_at : (l : ℕ) → l ≢ line.number → ((x : code.Line) → gone ≡ Some x → l ≢ number_of x) →
+      line_at filled_lines l ≡ line_at cache l
   other_at l other stays =
       line_at-with_other cache line.number filled_set l some_set
       (behind l other ∙ found-left_by (set_at cache line.number) gone l stays)
 
-  module _ (owner : ℕ) (old between new : Pooled) (told : Option Evicted) (bytes : List ℕ) (owes : IsLent old (shown_cache ways owner cache))
+  module _ (owner : ℕ) (old between new : Pooled) (told : Option Evicted) (bytes : List ℕ)
+      (owes : IsLent old (shown_cache ways owner cache))
       (vacant : IsVacancy owner old between gone slot told) (written : IsWritten between new slot bytes) where
     pub leaves-filled : LeavesOthers owner old new
     leaves-filled =
@@ -189,18 +207,21 @@ module _ (ways marks writes : ℕ) (cache : List (List code.Line)) (line : LineA
           ∙ sym (length-map filled_lines (map shown_line)));
       keeps =
           keeps-written between new owner (slots_of (shown_cache ways owner filled_lines)) slot bytes
-          (vacant.keeps (slots_of (shown_cache ways owner cache)) (slots_of (shown_cache ways owner filled_lines)) owes.keeps
+          (vacant.keeps (slots_of (shown_cache ways owner cache))
+          (slots_of (shown_cache ways owner filled_lines)) owes.keeps
           (λ g. omega (
             arith,
             slot-sum g filled_lines,
             slot-sum g cache,
-            total-filled (λ l. g l.slot) cache line.number some_set (once ways marks writes cache line.number sound) gone new_line leaves.there,
+            total-filled (λ l. g l.slot) cache line.number some_set (once ways marks writes cache line.number sound)
+                gone new_line leaves.there,
           )))
           written;
     }
 
     -- a line that was there before and is there after has the bytes that it had
-    kept_bytes : (l : ℕ) (x : code.Line) → line_at cache l ≡ Some x → ((g : code.Line) → gone ≡ Some g → l ≢ number_of g)
+    kept_bytes : (l : ℕ) (x : code.Line) → line_at cache l ≡ Some x →
+        ((g : code.Line) → gone ≡ Some g → l ≢ number_of g)
         → bytes_of new x.slot ≡ bytes_of old x.slot
     kept_bytes l x is stays =
         let out = out-at old ways owner cache some_set l x is owes in
@@ -210,25 +231,30 @@ module _ (ways marks writes : ℕ) (cache : List (List code.Line)) (line : LineA
         (once_at ways cache (number_of g) (number_of g) sound.well_formed) (stays g left) is owes))
         ∙ vacant.bytes x.slot
 
-    kept_copy : (l : ℕ) → ((g : code.Line) → gone ≡ Some g → l ≢ number_of g) → (x : Option code.Line) → line_at cache l ≡ x
+    kept_copy : (l : ℕ) → ((g : code.Line) → gone ≡ Some g → l ≢ number_of g) → (x : Option code.Line) →
+        line_at cache l ≡ x
         → option_map (copy_of new) x ≡ option_map (copy_of old) x
     kept_copy l stays None is = refl
-    kept_copy l stays (Some x) is = ap (λ b. Some (record { letter = x.way.letter; bytes = b })) (kept_bytes l x is stays)
+    kept_copy l stays (Some x) is =
+        ap (λ b. Some (record { letter = x.way.letter; bytes = b })) (kept_bytes l x is stays)
 
     victim_told : (gone : Option code.Line) (told : Option Evicted)
         → told ≡ option_map (λ l. record { line = l.way.line; letter = l.way.letter; bytes = bytes_of old l.slot }) gone
-        → option_map (λ (e : Evicted). e.line.number) told ≡ option_map (λ (way : Way). way.line) (option_map shown_line gone)
+        → option_map (λ (e : Evicted). e.line.number) told ≡ option_map (λ (way : Way). way.line)
+        (option_map shown_line gone)
     victim_told None told is = ap (option_map (λ (e : Evicted). e.line.number)) is
     victim_told (Some l) told is = ap (option_map (λ (e : Evicted). e.line.number)) is
 
-    pub is_filled : IsFilledWith (lent old (shown_cache ways owner cache)) (lent new (shown_cache ways owner filled_lines)) line.number letter
+    pub is_filled : IsFilledWith (lent old (shown_cache ways owner cache))
+        (lent new (shown_cache ways owner filled_lines)) line.number letter
         bytes told
     is_filled = record {
       ways = refl;
       residency = residency-filled;
       victim =
           victim_told gone told vacant.told_is
-          ∙ ap (option_map (λ (way : Way). way.line)) (leaves.evicted ∙ ap (evicted_in ways) (sym (set_of_shown cache line.number)));
+          ∙ ap (option_map (λ (way : Way). way.line))
+          (leaves.evicted ∙ ap (evicted_in ways) (sym (set_of_shown cache line.number)));
       here =
           copy_shown new ways owner filled_lines line.number ∙ ap (option_map (copy_of new)) new_at
           ∙ ap (λ b. Some (record { letter = letter; bytes = b })) written.here;

@@ -1,6 +1,7 @@
 -- Laws of lent caches for the layers above: what other owners' calls leave of them, and how they begin.
 pub mod AbsentLines
-use Rattle.std.proofs.Common.{◌≡◌, ◌≢◌, ℕ, zero, suc, ◌*◌, ◌≤◌, if◌then◌else◌, List, [], ◌∷◌, map, replicate, refl, ap, sym, subst, ◌∙◌, arith}
+use Rattle.std.proofs.Common.{◌≡◌, ◌≢◌, ℕ, zero, suc, ◌*◌, ◌≤◌, if◌then◌else◌, List, [], ◌∷◌, map, replicate, refl, ap}
+use Rattle.std.proofs.Common.{sym, subst, ◌∙◌, arith}
 use Rattle.std.specs.List.{flat_map}
 use Rattle.std.specs.Prelude.{slice_index}
 use Rattle.std.proofs.lemmas.Bool.Decides.{nat_tests}
@@ -22,14 +23,16 @@ one_at slot other = if same_slot other slot then 1 else 0
 
 -- slots with the same bytes in two pools
 module _ (old new : Slot → List ℕ) where
-  same_row : (slots : List Slot) → ((slot : Slot) → 1 ≤ times_among slots slot → new slot ≡ old slot) → map new slots ≡ map old slots
+  same_row : (slots : List Slot) → ((slot : Slot) → 1 ≤ times_among slots slot → new slot ≡ old slot) →
+      map new slots ≡ map old slots
   same_row [] same = refl
   same_row (slot ∷ slots) same =
       ap (λ b. b ∷ map new slots) (same slot (grind (arith, nat_tests, sum_by-cons (one_at slot) slot slots)))
       ∙ ap (λ bs. old slot ∷ bs)
       (same_row slots (λ s among. same s (omega (arith, among, sum_by-cons (one_at s) slot slots))))
 
-  same_rows : (sets : List (List Slot)) → ((slot : Slot) → 1 ≤ times_among (flat_map (λ set. set) sets) slot → new slot ≡ old slot)
+  same_rows : (sets : List (List Slot)) →
+      ((slot : Slot) → 1 ≤ times_among (flat_map (λ set. set) sets) slot → new slot ≡ old slot)
       → map (λ set. map new set) sets ≡ map (λ set. map old set) sets
   same_rows [] same = refl
   same_rows (set ∷ sets) same =
@@ -40,18 +43,22 @@ module _ (old new : Slot → List ℕ) where
 
 -- a cache whose slots have the same bytes in two pools
 pub lent-alike : (old new : Pooled) (cache : Slotted)
-    → ((slot : Slot) → 1 ≤ times_among (slots_of cache) slot → bytes_of new slot ≡ bytes_of old slot) → lent new cache ≡ lent old cache
+    → ((slot : Slot) → 1 ≤ times_among (slots_of cache) slot → bytes_of new slot ≡ bytes_of old slot) →
+    lent new cache ≡ lent old cache
 lent-alike old new cache same =
     ap (λ rows. record { ways = cache.ways; residency = cache.residency; bytes = rows })
     (same_rows (bytes_of old) (bytes_of new) cache.slots same)
 
 -- what another owner's call leaves of a cache: its bytes, and what it owes
-pub lent-left : (owner : ℕ) (old new : Pooled) (cache : Slotted) → LeavesOthers owner old new → cache.owner ≢ owner → IsLent old cache
+pub lent-left : (owner : ℕ) (old new : Pooled) (cache : Slotted) → LeavesOthers owner old new → cache.owner ≢ owner →
+    IsLent old cache
     → lent new cache ≡ lent old cache
 lent-left owner old new cache leaves apart owes =
-    lent-alike old new cache (λ slot among. bytes-left owner cache.owner old new (slots_of cache) slot leaves apart owes.keeps among)
+    lent-alike old new cache
+    (λ slot among. bytes-left owner cache.owner old new (slots_of cache) slot leaves apart owes.keeps among)
 
-pub is_lent-left : (owner : ℕ) (old new : Pooled) (cache : Slotted) → LeavesOthers owner old new → cache.owner ≢ owner → IsLent old cache
+pub is_lent-left : (owner : ℕ) (old new : Pooled) (cache : Slotted) → LeavesOthers owner old new → cache.owner ≢ owner →
+    IsLent old cache
     → IsLent new cache
 is_lent-left owner old new cache leaves apart owes = record {
   quota = quota-left owner cache.owner old new leaves ∙ owes.quota;
@@ -74,13 +81,16 @@ no_rows : (bytes : Slot → List ℕ) (sets : ℕ) → map (λ set. map bytes se
 no_rows bytes zero = refl
 no_rows bytes (suc sets) = ap (λ rows. [] ∷ rows) (no_rows bytes sets)
 
-pub lent-empty : (pool : Pooled) (ways sets owner : ℕ) → lent pool (empty_slotted ways sets owner) ≡ empty_cached ways sets
+pub lent-empty : (pool : Pooled) (ways sets owner : ℕ) →
+    lent pool (empty_slotted ways sets owner) ≡ empty_cached ways sets
 lent-empty pool ways sets owner =
     ap (λ rows. record { ways = ways; residency = (empty_slotted ways sets owner).residency; bytes = rows })
     (no_rows (bytes_of pool) sets)
 
 -- so in a pool that was made with its quota
-pub is_lent-made : (pool : Pooled) (given : List ℕ) (ways sets owner : ℕ) → IsMade given pool → slice_index given owner ≡ sets * ways
+pub is_lent-made : (pool : Pooled) (given : List ℕ) (ways sets owner : ℕ) → IsMade given pool →
+    slice_index given owner ≡ sets * ways
     → IsLent pool (empty_slotted ways sets owner)
 is_lent-made pool given ways sets owner made quota =
-    is_lent-empty pool ways sets owner (ap (λ quotas. slice_index quotas owner) made.quotas ∙ quota) (made.none_counted owner)
+    is_lent-empty pool ways sets owner (ap (λ quotas. slice_index quotas owner) made.quotas ∙ quota)
+    (made.none_counted owner)

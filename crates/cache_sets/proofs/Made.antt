@@ -1,5 +1,6 @@
 -- A cache without lines.
-use Rattle.std.proofs.Common.{◌≡◌, ℕ, zero, suc, ◌+◌, ◌^◌, ◌≤◌, ◌<◌, Bool, true, false, ◌||◌, eqb, List, [], ◌∷◌, ◌++◌, length, map, get_or}
+use Rattle.std.proofs.Common.{◌≡◌, ℕ, zero, suc, ◌+◌, ◌^◌, ◌≤◌, ◌<◌, Bool, true, false, ◌||◌, eqb, List, [], ◌∷◌, ◌++◌}
+use Rattle.std.proofs.Common.{length, map, get_or}
 use Rattle.std.proofs.Common.{replicate, refl, ap, sym, subst, ◌∙◌, arith}
 use Rattle.std.specs.Int.{IsPowerOfTwo}
 use Rattle.std.specs.List.{count_by, sum_by}
@@ -46,12 +47,19 @@ total-empty f n = omega (arith, sum_by-replicate (λ (set : List code.Line). sum
 module _ (ways count owner : ℕ) (sets : List Set) (are : AreEmpty ways count sets) where
   pub lines-made : lines_of sets ≡ replicate count []
   lines-made =
-      lines-none sets (λ k d within. (All-get_or (IsEmpty ways) sets k d within are.each).no_lines) ∙ ap (λ n. replicate n []) are.count_is
+      lines-none sets (λ k d within. (All-get_or (IsEmpty ways) sets k d within are.each).no_lines)
+      ∙ ap (λ n. replicate n []) are.count_is
 
   pub shown-made : shown_cache ways owner (lines_of sets) ≡ empty_slotted ways count owner
   shown-made =
       ap (shown_cache ways owner) lines-made
-      ∙ ap (λ r. record { ways = ways; residency = r; owner = owner; slots = map (λ set. map (λ (l : code.Line). l.slot) set) (replicate count []) })
+      ∙ ap
+      (λ r. record {
+        ways = ways;
+        residency = r;
+        owner = owner;
+        slots = map (λ set. map (λ (l : code.Line). l.slot) set) (replicate count []);
+      })
       (residency-none count)
       ∙ ap (λ s. record { ways = ways; residency = empty_cache count; owner = owner; slots = s }) (slots-none count)
 
@@ -68,7 +76,8 @@ module _ (ways count owner : ℕ) (sets : List Set) (are : AreEmpty ways count s
       well_formed = subst (IsWellFormed ways) (sym residency-made) (well_formed-empty_cache ways count some_set);
       named = ap (total unnamed) lines-made ∙ total-empty unnamed count;
       marked =
-          sym (ap marks_of residency-made ∙ omega (arith, sum_by-replicate (λ (set : List Way). count_by is_marked set) count []));
+          sym (ap marks_of residency-made
+          ∙ omega (arith, sum_by-replicate (λ (set : List Way). count_by is_marked set) count []));
       written =
           sym (ap write_bits_of residency-made
           ∙ omega (arith, sum_by-replicate (λ (set : List Way). count_by (λ (way : Way). way.write) set) count []));
@@ -82,20 +91,26 @@ set_range n allowed = (grind (arith, nat_tests), grind (arith, nat_tests))
 -- each number of sets that a cache may have is a power of two
 set_power : (n : ℕ) → allows Sets n ≡ true → IsPowerOfTwo n
 set_power n =
-    this_or 0 n _ (this_or 1 n _ (this_or 2 n _ (this_or 3 n _ (this_or 4 n _ (this_or 5 n _ (this_or 6 n _ (λ none. absurd (true≢false (sym none)))))))))
+    this_or 0 n _
+    (this_or 1 n _
+    (this_or 2 n _
+    (this_or 3 n _ (this_or 4 n _ (this_or 5 n _ (this_or 6 n _ (λ none. absurd (true≢false (sym none)))))))))
   where
-    this_or : (k n : ℕ) (other : Bool) → (other ≡ true → IsPowerOfTwo n) → (eqb (2 ^ k) n || other) ≡ true → IsPowerOfTwo n
+    this_or : (k n : ℕ) (other : Bool) → (other ≡ true → IsPowerOfTwo n) →
+        (eqb (2 ^ k) n || other) ≡ true → IsPowerOfTwo n
     this_or k n other later one = by_test (eqb (2 ^ k) n) refl one
       where
         by_test : (test : Bool) → eqb (2 ^ k) n ≡ test → (test || other) ≡ true → IsPowerOfTwo n
         by_test true is one = (k, sym (eqb-true (2 ^ k) n is))
         by_test false is one = later one
 
-pub stands-made : (config : Config) (sets : List Set) → IsInRange config → AreEmpty config.ways config.sets sets → CacheStands config.ways sets 0 0
+pub stands-made : (config : Config) (sets : List Set) → IsInRange config → AreEmpty config.ways config.sets sets →
+    CacheStands config.ways sets 0 0
 stands-made config sets in_range are =
     let r = ranges config in_range in
     let sets_range = set_range config.sets r.sets in
-    made-stands config.ways config.sets 0 sets are (at_least 1 8 config.ways r.ways) (at_most 1 8 config.ways r.ways) sets_range.0 sets_range.1
+    made-stands config.ways config.sets 0 sets are (at_least 1 8 config.ways r.ways) (at_most 1 8 config.ways r.ways)
+    sets_range.0 sets_range.1
     (set_power config.sets r.sets)
 
 -- the first sets

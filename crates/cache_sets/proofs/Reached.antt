@@ -1,5 +1,6 @@
 -- The set of a line as a call reaches it, and the cache after the call put another set in its place.
-use Rattle.std.proofs.Common.{◌≡◌, ℕ, ◌%◌, ◌≤◌, ◌<◌, List, [], length, get_or, vec_capacity, ap, sym, inl, inr, ◌∙◌, arith}
+use Rattle.std.proofs.Common.{◌≡◌, ℕ, ◌%◌, ◌≤◌, ◌<◌, List, [], length, get_or, vec_capacity, ap, sym, inl, inr, ◌∙◌}
+use Rattle.std.proofs.Common.{arith}
 use Rattle.std.specs.Prelude.{slice_set}
 use Rattle.std.proofs.lemmas.Bool.{cases_eq}
 use Rattle.std.proofs.lemmas.List.{get_or-map, get_or-set_other, get_or-set_same, length-map, length-set, map-set}
@@ -17,7 +18,8 @@ pub record Reaches (sets : List Set) (line number : ℕ) (set : Set) : Type 0 wh
   pub within : number < length sets
   pub read : set ≡ get_or sets number set
 
-pub reached : {sets slice : List Set} {line number : ℕ} {set : Set} → slice ≡ sets → number ≡ line % length slice → number < length slice
+pub reached : {sets slice : List Set} {line number : ℕ} {set : Set} → slice ≡ sets → number ≡ line % length slice →
+    number < length slice
     → set ≡ get_or sets number set → Reaches sets line number set
 reached {sets} {slice} {line} {number} {set} same is within read = record {
   number_is = is ∙ ap (λ s. line % length s) same;
@@ -35,7 +37,8 @@ module _ (sets : List Set) (line number : ℕ) (old : Set) (at : Reaches sets li
       ap items_of at.read ∙ sym (get_or-map items_of sets number old [] at.within)
       ∙ ap (λ n. get_or (lines_of sets) n []) place_is
 
-  pub once-reached : (ways marks writes : ℕ) → CacheStands ways sets marks writes → (l : ℕ) → count_of number_of old.lines.items l ≤ 1
+  pub once-reached : (ways marks writes : ℕ) → CacheStands ways sets marks writes → (l : ℕ) →
+      count_of number_of old.lines.items l ≤ 1
   once-reached ways marks writes stands l =
       omega (
         arith,
@@ -50,14 +53,16 @@ module _ (sets : List Set) (line number : ℕ) (old : Set) (at : Reaches sets li
   pub room-reached : (ways : ℕ) → HaveRoom ways sets → ways ≤ vec_capacity old.lines
   room-reached ways room = omega (arith, room number old at.within, ap (λ s. vec_capacity s.lines) at.read)
 
-  pub room-after : (ways : ℕ) (new : Set) → HaveRoom ways sets → HasRoom old new → HaveRoom ways (slice_set sets number new)
+  pub room-after : (ways : ℕ) (new : Set) → HaveRoom ways sets → HasRoom old new →
+      HaveRoom ways (slice_set sets number new)
   room-after ways new room same k d within = elim (cases_eq k number) [
     | inl here ↦
         omega (
           arith,
           room-reached ways room,
           same,
-          ap (λ s. vec_capacity s.lines) (ap (λ n. get_or (slice_set sets number new) n d) here ∙ get_or-set_same sets number new d at.within),
+          ap (λ s. vec_capacity s.lines)
+              (ap (λ n. get_or (slice_set sets number new) n d) here ∙ get_or-set_same sets number new d at.within),
         )
     | inr other ↦
         omega (

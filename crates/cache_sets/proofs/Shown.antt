@@ -1,5 +1,7 @@
--- What the lines of a cache show: the residency, each line's way and slot, and the copies that a pool's bytes make of them.
-use Rattle.std.proofs.Common.{◌≡◌, ◌≢◌, ℕ, zero, suc, ◌+◌, ◌%◌, ◌≤◌, ◌<◌, cond, eqb, List, [], ◌∷◌, length, map, get_or, Option, None, Some}
+-- What the lines of a cache show: the residency, each line's way and slot, and the copies
+-- that a pool's bytes make of them.
+use Rattle.std.proofs.Common.{◌≡◌, ◌≢◌, ℕ, zero, suc, ◌+◌, ◌%◌, ◌≤◌, ◌<◌, cond, eqb, List, [], ◌∷◌, length, map, get_or}
+use Rattle.std.proofs.Common.{Option, None, Some}
 use Rattle.std.proofs.Common.{option_map, is_some, refl, ap, sym, inl, inr, ◌∙◌, arith}
 use Rattle.std.specs.Option.{option_map_or}
 use Rattle.std.specs.List.{position, sum_by}
@@ -15,7 +17,8 @@ use Rattle.cache_sets.specs.declared.line.Line as code
 use Rattle.residency.specs.Cache.{set_of, way_of, with_set}
 use Rattle.cache_sets.specs.Cached.{Copy, bytes_in, bytes_of, copy_in}
 use Rattle.residency.specs.Keyed.{count_of, found}
-use Rattle.cache_sets.specs.Kept.{line_at, number_of, residency_of, set_at, shown_cache, shown_line, slot_in_use, with_lines}
+use Rattle.cache_sets.specs.Kept.{line_at, number_of, residency_of, set_at, shown_cache, shown_line, slot_in_use}
+use Rattle.cache_sets.specs.Kept.{with_lines}
 use Rattle.residency.specs.Residency.{Way, way_in}
 use Rattle.cache_sets.specs.Slotted.{lent, slot_in, slot_of}
 use Rattle.residency.specs.WellFormed.{IsWellFormed}
@@ -23,19 +26,24 @@ use Rattle.residency.proofs.Laws.KeyedLemmas.{found-map, position-some}
 use Rattle.residency.proofs.Laws.ResidencyLemmas.{line_of, way_in-found}
 
 -- the set of a line, and the way of a line in a set and in the cache
-pub set_of_shown : (cache : List (List code.Line)) (line : ℕ) → set_of (residency_of cache) line ≡ map shown_line (set_at cache line)
+pub set_of_shown : (cache : List (List code.Line)) (line : ℕ) →
+    set_of (residency_of cache) line ≡ map shown_line (set_at cache line)
 set_of_shown [] line = refl
 set_of_shown (first ∷ cache) line =
     let whole = first ∷ cache in
     rw (length-map whole (map shown_line)) (get_or-map (map shown_line) whole (line % length whole) [] [] (omega arith))
 
-pub way_in_shown : (lines : List code.Line) (line : ℕ) → way_in (map shown_line lines) line ≡ option_map shown_line (found number_of lines line)
-way_in_shown lines line = way_in-found (map shown_line lines) line ∙ found-map number_of line_of shown_line (λ l. refl) lines line
+pub way_in_shown : (lines : List code.Line) (line : ℕ) →
+    way_in (map shown_line lines) line ≡ option_map shown_line (found number_of lines line)
+way_in_shown lines line =
+    way_in-found (map shown_line lines) line ∙ found-map number_of line_of shown_line (λ l. refl) lines line
 
-pub way_of_shown : (cache : List (List code.Line)) (line : ℕ) → way_of (residency_of cache) line ≡ option_map shown_line (line_at cache line)
+pub way_of_shown : (cache : List (List code.Line)) (line : ℕ) →
+    way_of (residency_of cache) line ≡ option_map shown_line (line_at cache line)
 way_of_shown cache line = ap (λ set. way_in set line) (set_of_shown cache line) ∙ way_in_shown (set_at cache line) line
 
-pub sum-map : {X Y : Type 0} (f : Y → ℕ) (show : X → Y) (xs : List X) → sum_by f (map show xs) ≡ sum_by (λ x. f (show x)) xs
+pub sum-map : {X Y : Type 0} (f : Y → ℕ) (show : X → Y) (xs : List X) →
+    sum_by f (map show xs) ≡ sum_by (λ x. f (show x)) xs
 sum-map f show xs = fold-map (λ total y. total + f y) show 0 xs
 
 -- no set has a line twice
@@ -54,7 +62,8 @@ some_set ways cache kept = omega (arith, kept.some_set, length-map cache (map sh
 
 -- the slot of a line
 slot_in_shown : (lines : List code.Line) (line : ℕ)
-    → slot_in (map shown_line lines) (map (λ l. l.slot) lines) line ≡ option_map_or (λ l. l.slot) (found number_of lines line) no_slot
+    → slot_in (map shown_line lines) (map (λ l. l.slot) lines) line ≡ option_map_or (λ l. l.slot)
+    (found number_of lines line) no_slot
 slot_in_shown [] line = refl
 slot_in_shown (first ∷ lines) line = grind (arith, nat_tests, slot_in_shown lines line)
 
@@ -85,7 +94,8 @@ rows_at bytes (set ∷ cache) zero within = refl
 rows_at bytes (set ∷ cache) (suc k) within = rows_at bytes cache k (omega arith)
 
 pub bytes_shown : (pool : Pooled) (ways owner : ℕ) (cache : List (List code.Line)) (line : ℕ)
-    → bytes_of (lent pool (shown_cache ways owner cache)) line ≡ option_map_or (λ l. pools.bytes_of pool l.slot) (line_at cache line) []
+    → bytes_of (lent pool (shown_cache ways owner cache)) line ≡ option_map_or (λ l. pools.bytes_of pool l.slot)
+    (line_at cache line) []
 bytes_shown pool ways owner [] line = refl
 bytes_shown pool ways owner (first ∷ cache) line =
     let whole = first ∷ cache in
@@ -120,16 +130,22 @@ module _ (cache : List (List code.Line)) (line : ℕ) (set : List code.Line) whe
   pub length-with : length (with_lines cache line set) ≡ length cache
   length-with = length-set cache (line % length cache) set
 
-  pub residency-with : residency_of (with_lines cache line set) ≡ with_set (residency_of cache) line (map shown_line set)
+  pub residency-with : residency_of (with_lines cache line set) ≡ with_set (residency_of cache) line
+      (map shown_line set)
   residency-with =
       map-set (map shown_line) cache (line % length cache) set
-      ∙ ap (λ n. slice_set (residency_of cache) (line % n) (map shown_line set)) (sym (length-map cache (map shown_line)))
+      ∙ ap (λ n. slice_set (residency_of cache) (line % n) (map shown_line set))
+      (sym (length-map cache (map shown_line)))
 
-  pub set_at-with_same : (l : ℕ) → 0 < length cache → l % length cache ≡ line % length cache → set_at (with_lines cache line set) l ≡ set
-  set_at-with_same l some same = rw (length-with, same) (get_or-set_same cache (line % length cache) set [] (omega arith))
+  pub set_at-with_same : (l : ℕ) → 0 < length cache → l % length cache ≡ line % length cache →
+      set_at (with_lines cache line set) l ≡ set
+  set_at-with_same l some same =
+      rw (length-with, same) (get_or-set_same cache (line % length cache) set [] (omega arith))
 
-  set_at-with_other : (l : ℕ) → l % length cache ≢ line % length cache → set_at (with_lines cache line set) l ≡ set_at cache l
-  set_at-with_other l other = rw length-with (get_or-set_other cache (line % length cache) (l % length cache) set [] other)
+  set_at-with_other : (l : ℕ) → l % length cache ≢ line % length cache →
+      set_at (with_lines cache line set) l ≡ set_at cache l
+  set_at-with_other l other =
+      rw length-with (get_or-set_other cache (line % length cache) (l % length cache) set [] other)
 
   -- a line of the set, and a line that has in the new set what it had
   pub line_at-with_same : (l : ℕ) → 0 < length cache → l % length cache ≡ line % length cache
@@ -144,10 +160,12 @@ module _ (cache : List (List code.Line)) (line : ℕ) (set : List code.Line) whe
   ]
 
 -- a line is in a set exactly where it has a place there
-pub some_place : (lines : List code.Line) (line : ℕ) (place : Option ℕ) → place ≡ position (λ l. eqb (number_of l) line) lines
+pub some_place : (lines : List code.Line) (line : ℕ) (place : Option ℕ) →
+    place ≡ position (λ l. eqb (number_of l) line) lines
     → is_some place ≡ is_some (way_in (map shown_line lines) line)
 some_place lines line place is =
-    ap is_some is ∙ position-some number_of lines line ∙ some_shown (found number_of lines line) ∙ ap is_some (sym (way_in_shown lines line))
+    ap is_some is ∙ position-some number_of lines line ∙ some_shown (found number_of lines line)
+    ∙ ap is_some (sym (way_in_shown lines line))
   where
     some_shown : (l : Option code.Line) → is_some l ≡ is_some (option_map shown_line l)
     some_shown None = refl

@@ -1,5 +1,6 @@
 -- What a lent cache owes its pool, by the slots of its lines.
-use Rattle.std.proofs.Common.{◌≡◌, ◌≢◌, ℕ, ◌*◌, ◌≤◌, ◌<◌, Bool, true, false, if◌then◌else◌, List, [], ◌∷◌, length, map, Some, refl, ap, sym, ◌∙◌, arith}
+use Rattle.std.proofs.Common.{◌≡◌, ◌≢◌, ℕ, ◌*◌, ◌≤◌, ◌<◌, Bool, true, false, if◌then◌else◌, List, [], ◌∷◌, length, map}
+use Rattle.std.proofs.Common.{Some, refl, ap, sym, ◌∙◌, arith}
 use Rattle.std.specs.List.{flat_map, sum_by}
 use Rattle.std.proofs.lemmas.Bool.Decides.{nat_tests}
 use Rattle.std.proofs.lemmas.List.{length-map}
@@ -18,7 +19,8 @@ use Rattle.cache_sets.proofs.Totals.{part-at, parts-at}
 
 -- a sum over the slots of a cache, which says how often a slot is among them, and how many there are
 pub slot-sum : (g : Slot → ℕ) (cache : List (List code.Line))
-    → sum_by g (flat_map (λ set. set) (map (λ set. map (λ (l : code.Line). l.slot) set) cache)) ≡ total (λ l. g l.slot) cache
+    → sum_by g (flat_map (λ set. set) (map (λ set. map (λ (l : code.Line). l.slot) set) cache))
+    ≡ total (λ l. g l.slot) cache
 slot-sum g [] = refl
 slot-sum g (set ∷ cache) =
     let slots : List Slot = map (λ l. l.slot) set in
@@ -38,7 +40,8 @@ abbrev pub one_at : Slot → Slot → ℕ
 one_at slot other = if same_slot other slot then 1 else 0
 
 module _ (pool : Pooled) (ways owner : ℕ) (cache : List (List code.Line)) where
-  pub among-shown : (slot : Slot) → times_among (slots_of (shown_cache ways owner cache)) slot ≡ total (λ l. one_at slot l.slot) cache
+  pub among-shown : (slot : Slot) → times_among (slots_of (shown_cache ways owner cache)) slot
+      ≡ total (λ l. one_at slot l.slot) cache
   among-shown slot = slot-sum (one_at slot) cache
 
   pub count-shown : length (slots_of (shown_cache ways owner cache)) ≡ total (λ l. 1) cache
@@ -52,8 +55,10 @@ module _ (pool : Pooled) (ways owner : ℕ) (cache : List (List code.Line)) wher
   lent-moved new sizes same lent = record {
     quota = lent.quota ∙ ap (λ n. n * ways) (sets-shown ∙ sym sizes ∙ sym (length-map new (map shown_line)));
     keeps =
-        keeps-permuted pool owner (slots_of (shown_cache ways owner cache)) (slots_of (shown_cache ways owner new)) lent.keeps
-        (length-sum_by (slots_of (shown_cache ways owner new)) ∙ slot-sum (λ slot. 1) new ∙ same (λ slot. 1) ∙ sym count-shown)
+        keeps-permuted pool owner (slots_of (shown_cache ways owner cache))
+        (slots_of (shown_cache ways owner new)) lent.keeps
+        (length-sum_by (slots_of (shown_cache ways owner new)) ∙ slot-sum (λ slot. 1) new ∙ same (λ slot. 1)
+        ∙ sym count-shown)
         (λ slot. slot-sum (one_at slot) new ∙ same (one_at slot) ∙ sym (among-shown slot));
   }
 

@@ -20,7 +20,8 @@ changed-none change old = record {
   others = λ k d past. refl;
 }
 
-pub changed-more : (change : known.Way → known.Way) (place : ℕ) (old now : List Set) (item new : Set) → AreChangedTo change place old now
+pub changed-more : (change : known.Way → known.Way) (place : ℕ) (old now : List Set) (item new : Set) →
+    AreChangedTo change place old now
     → place < length now → item ≡ get_or now place item → IsChanged change item new
     → AreChangedTo change (place + 1) old (slice_set now place new)
 changed-more change place old now item new are within read is = record {
@@ -29,15 +30,19 @@ changed-more change place old now item new are within read is = record {
     | inl same ↦
         subst (λ n. IsChanged change (get_or old n d) (get_or (slice_set now place new) n d)) (sym same)
         (subst (IsChanged change (get_or old place d)) (sym (get_or-set_same now place new d within))
-        (subst (λ s. IsChanged change s new) (get_or_read now place item within read d ∙ are.others place d (omega arith)) is))
+        (subst (λ s. IsChanged change s new)
+        (get_or_read now place item within read d ∙ are.others place d (omega arith)) is))
     | inr other ↦
         subst (IsChanged change (get_or old k d)) (sym (get_or-set_other now place k new d other))
         (are.changed k d (omega (arith, below, other)))
   ];
   others = λ k d past.
-      get_or-set_other now place k new d (λ same. absurd (omega (arith, past, same))) ∙ are.others k d (omega (arith, past));
+      get_or-set_other now place k new d (λ same. absurd (omega (arith, past, same)))
+      ∙ are.others k d (omega (arith, past));
 }
 
-pub changed-all : (change : known.Way → known.Way) (place : ℕ) (old now : List Set) → AreChangedTo change place old now → length old ≤ place
+pub changed-all : (change : known.Way → known.Way) (place : ℕ) (old now : List Set) →
+    AreChangedTo change place old now → length old ≤ place
     → AreChanged change old now
-changed-all change place old now are past = record { count = are.count; each = λ k d within. are.changed k d (omega (arith, within, past)) }
+changed-all change place old now are past =
+    record { count = are.count; each = λ k d within. are.changed k d (omega (arith, within, past)) }

@@ -1,5 +1,6 @@
 -- Sums over all lines of a cache, after a set of it changed, and the parts that lines have in them.
-use Rattle.std.proofs.Common.{◌≡◌, ◌≢◌, ℕ, ◌+◌, ◌%◌, ◌≤◌, ◌<◌, List, [], ◌∷◌, length, map, get_or, Option, None, Some, refl, ap, sym, inl, inr, ◌∙◌, arith}
+use Rattle.std.proofs.Common.{◌≡◌, ◌≢◌, ℕ, ◌+◌, ◌%◌, ◌≤◌, ◌<◌, List, [], ◌∷◌, length, map, get_or, Option, None, Some}
+use Rattle.std.proofs.Common.{refl, ap, sym, inl, inr, ◌∙◌, arith}
 use Rattle.std.specs.Option.{option_map_or}
 use Rattle.std.specs.List.{sum_by}
 use Rattle.std.specs.Prelude.{slice_set}
@@ -9,11 +10,13 @@ use Rattle.std.proofs.lemmas.List.Sums.{get_or-le-sum_by, sum_by-cons, sum_by-se
 use Rattle.cache_sets.specs.declared.line.Line as code
 use Rattle.residency.specs.Keyed.{changed, count_of, found, fronted, without}
 use Rattle.cache_sets.specs.Kept.{left_by, line_at, number_of, set_at, total, with_lines}
-use Rattle.residency.proofs.Laws.KeyedLemmas.{found-le-sum_by, sum_by-changed, sum_by-fronted, sum_by-without, two_found}
+use Rattle.residency.proofs.Laws.KeyedLemmas.{found-le-sum_by, sum_by-changed, sum_by-fronted, sum_by-without}
+use Rattle.residency.proofs.Laws.KeyedLemmas.{two_found}
 use Rattle.cache_sets.proofs.Shown.{sum-map}
 
 module _ (f : code.Line → ℕ) (cache : List (List code.Line)) (line : ℕ) (some : 0 < length cache) where
-  pub total-with : (set : List code.Line) → total f (with_lines cache line set) + sum_by f (set_at cache line) ≡ total f cache + sum_by f set
+  pub total-with : (set : List code.Line) →
+      total f (with_lines cache line set) + sum_by f (set_at cache line) ≡ total f cache + sum_by f set
   total-with set = sum_by-set (λ s. sum_by f s) cache (line % length cache) set [] (omega arith)
 
   -- what a line has of the sum
@@ -62,7 +65,8 @@ module _ (f : code.Line → ℕ) (cache : List (List code.Line)) (line : ℕ) (s
           sum_by-fronted number_of f (set_at cache line) line (once line),
         )
 
-    pub total-changed : (change : code.Line → code.Line) → total f (with_lines cache line (changed number_of change (set_at cache line) line)) + part f
+    pub total-changed : (change : code.Line → code.Line) →
+        total f (with_lines cache line (changed number_of change (set_at cache line) line)) + part f
         ≡ total f cache + part (λ l. f (change l))
     total-changed change =
         omega (
@@ -79,7 +83,8 @@ module _ (f : code.Line → ℕ) (cache : List (List code.Line)) (line : ℕ) (s
         same None = refl
         same (Some l) = stays l
 
-    pub total-without : total f (with_lines cache line (without number_of (set_at cache line) line)) + part f ≡ total f cache
+    pub total-without : total f (with_lines cache line (without number_of (set_at cache line) line))
+        + part f ≡ total f cache
     total-without =
         omega (
           arith,
@@ -87,7 +92,8 @@ module _ (f : code.Line → ℕ) (cache : List (List code.Line)) (line : ℕ) (s
           sum_by-without number_of f (set_at cache line) line (once line),
         )
 
-    left_sum : (gone : Option code.Line) → ((l : code.Line) → gone ≡ Some l → found number_of (set_at cache line) (number_of l) ≡ Some l)
+    left_sum : (gone : Option code.Line) →
+        ((l : code.Line) → gone ≡ Some l → found number_of (set_at cache line) (number_of l) ≡ Some l)
         → sum_by f (left_by (set_at cache line) gone) + option_map_or f gone 0 ≡ sum_by f (set_at cache line)
     left_sum None there = omega arith
     left_sum (Some l) there =
@@ -99,7 +105,8 @@ module _ (f : code.Line → ℕ) (cache : List (List code.Line)) (line : ℕ) (s
 
     pub total-filled : (gone : Option code.Line) (new : code.Line)
         → ((l : code.Line) → gone ≡ Some l → found number_of (set_at cache line) (number_of l) ≡ Some l)
-        → total f (with_lines cache line (new ∷ left_by (set_at cache line) gone)) + option_map_or f gone 0 ≡ total f cache + f new
+        → total f (with_lines cache line (new ∷ left_by (set_at cache line) gone)) + option_map_or f gone 0
+        ≡ total f cache + f new
     total-filled gone new there =
         omega (
           arith,
@@ -127,4 +134,5 @@ sum-none f (l ∷ set) none = omega (arith, sum_by-cons f l set, none l, sum-non
 
 pub total-none : (f : code.Line → ℕ) (cache : List (List code.Line)) → ((l : code.Line) → f l ≡ 0) → total f cache ≡ 0
 total-none f [] none = refl
-total-none f (set ∷ cache) none = omega (arith, sum_by-cons (λ s. sum_by f s) set cache, sum-none f set none, total-none f cache none)
+total-none f (set ∷ cache) none =
+    omega (arith, sum_by-cons (λ s. sum_by f s) set cache, sum-none f set none, total-none f cache none)

@@ -1,5 +1,6 @@
 -- The copies of a cache of which a line got other bytes.
-use Rattle.std.proofs.Common.{◌≡◌, ◌≢◌, ℕ, List, [], ◌∷◌, length, get_or, Option, None, Some, option_map, refl, ap, sym, inl, inr, ◌∙◌, arith}
+use Rattle.std.proofs.Common.{◌≡◌, ◌≢◌, ℕ, List, [], ◌∷◌, length, get_or, Option, None, Some, option_map, refl, ap, sym}
+use Rattle.std.proofs.Common.{inl, inr, ◌∙◌, arith}
 use Rattle.std.specs.Prelude.{slice_set}
 use Rattle.std.proofs.lemmas.Bool.{cases_eq, cases_lt}
 use Rattle.std.proofs.lemmas.Bool.Decides.{nat_tests}
@@ -11,8 +12,8 @@ use Rattle.cache_sets.specs.Cached.{Cached, Copy, bytes_in, bytes_of, copy_in, c
 use Rattle.cache_sets.specs.Calls.{IsCached, IsWritten}
 
 -- the bytes of the line, and of another one, in a set
-bytes_in-put_in_same : (ways : List Way) (rows : List (List ℕ)) (line : ℕ) (new : List ℕ) (way : Way) → way_in ways line ≡ Some way →
-    length rows ≡ length ways → bytes_in ways (put_in ways rows line new) line ≡ new
+bytes_in-put_in_same : (ways : List Way) (rows : List (List ℕ)) (line : ℕ) (new : List ℕ) (way : Way) →
+    way_in ways line ≡ Some way → length rows ≡ length ways → bytes_in ways (put_in ways rows line new) line ≡ new
 bytes_in-put_in_same [] rows line new way there same = absurd cc
 bytes_in-put_in_same (first ∷ ways) [] line new way there same = absurd (omega (arith, same))
 bytes_in-put_in_same (first ∷ ways) (bytes ∷ rows) line new way there same =
@@ -57,7 +58,8 @@ module _ (cached : Cached) (line : ℕ) (new : List ℕ) where
   bytes_other l other =
       elim (cases_eq (set_number cached.residency l) number) [
         | inl same ↦
-            ap (λ n. bytes_in (get_or cached.residency n []) (get_or (slice_set cached.bytes number (put_in set rows line new)) n []) l) same
+            ap (λ n. bytes_in (get_or cached.residency n [])
+            (get_or (slice_set cached.bytes number (put_in set rows line new)) n []) l) same
             ∙ ap (λ bytes. bytes_in set bytes l) rows_after
             ∙ bytes_in-put_in_other set rows line l new other
             ∙ ap (λ n. bytes_in (get_or cached.residency n []) (get_or cached.bytes n []) l) (sym same)
@@ -66,17 +68,21 @@ module _ (cached : Cached) (line : ℕ) (new : List ℕ) where
             (get_or-set_other cached.bytes number (set_number cached.residency l) (put_in set rows line new) [] apart)
       ]
 
-  bytes_here : (way : Way) → way_of cached.residency line ≡ Some way → length rows ≡ length set → bytes_of (with_bytes cached line new) line ≡ new
-  bytes_here way there same = ap (λ bytes. bytes_in set bytes line) rows_after ∙ bytes_in-put_in_same set rows line new way there same
+  bytes_here : (way : Way) → way_of cached.residency line ≡ Some way → length rows ≡ length set →
+      bytes_of (with_bytes cached line new) line ≡ new
+  bytes_here way there same =
+      ap (λ bytes. bytes_in set bytes line) rows_after ∙ bytes_in-put_in_same set rows line new way there same
 
 -- a cache of which a line got other bytes has that copy with other bytes, and every other copy as before
-pub is_written : (cached : Cached) (line : ℕ) (new : List ℕ) → IsCached cached → IsWritten cached (with_bytes cached line new) line new
+pub is_written : (cached : Cached) (line : ℕ) (new : List ℕ) → IsCached cached →
+    IsWritten cached (with_bytes cached line new) line new
 is_written cached line new is = record {
   ways = refl;
   residency = refl;
   here = by_way (way_of cached.residency line) refl;
   others = λ l other.
-      ap (λ bytes. option_map (λ way. record { letter = way.letter; bytes = bytes }) (way_of cached.residency l)) (bytes_other cached line new l other);
+      ap (λ bytes. option_map (λ way. record { letter = way.letter; bytes = bytes }) (way_of cached.residency l))
+      (bytes_other cached line new l other);
 }
   where
     own : length (rows cached line new) ≡ length (set cached line new)
@@ -94,7 +100,8 @@ is_written cached line new is = record {
 
     by_way : (way : Option Way) → way_of cached.residency line ≡ way →
         copy_in (with_bytes cached line new) line ≡ option_map (copy_with_bytes new) (copy_in cached line)
-    by_way None none = ap (option_map shown) none ∙ sym (ap (λ way. option_map (copy_with_bytes new) (option_map before way)) none)
+    by_way None none =
+        ap (option_map shown) none ∙ sym (ap (λ way. option_map (copy_with_bytes new) (option_map before way)) none)
     by_way (Some way) there =
         ap (option_map shown) there
         ∙ ap (λ bytes. Some (record { letter = way.letter; bytes = bytes })) (bytes_here cached line new way there own)

@@ -1,5 +1,6 @@
 -- one hart's cache with the bytes of its lines
-use Rattle.std.specs.Prelude.{ℕ, ◌==◌, ◌%◌, if◌then◌else◌, List, [], ◌∷◌, Option, option_map, replicate, slice_index, slice_index_or, slice_set}
+use Rattle.std.specs.Prelude.{ℕ, ◌==◌, ◌%◌, if◌then◌else◌, List, [], ◌∷◌, Option, option_map, replicate, slice_index}
+use Rattle.std.specs.Prelude.{slice_index_or, slice_set}
 use Rattle.el_base.specs.Line.{line_number}
 use Rattle.el_base.specs.declared.line.TheConstants.{LINE_BYTES}
 use Rattle.moesi.specs.declared.letter.Letter.{Letter}
@@ -29,7 +30,8 @@ put_in (way ∷ ways) (bytes ∷ rows) line new = (if way.line == line then new 
 
 -- the bytes of a line, and no bytes of a line that is not there
 abbrev pub bytes_of : Cached → ℕ → List ℕ
-bytes_of cached line = bytes_in (set_of cached.residency line) (slice_index_or cached.bytes (set_number cached.residency line) []) line
+bytes_of cached line =
+    bytes_in (set_of cached.residency line) (slice_index_or cached.bytes (set_number cached.residency line) []) line
 
 -- the byte at an address, in a cache that has its line
 abbrev pub cached_byte : Cached → ℕ → ℕ
@@ -42,7 +44,8 @@ pub record Copy : Type 0 where
 
 -- the copy of a line, if the cache has one
 abbrev pub copy_in : Cached → ℕ → Option Copy
-copy_in cached line = option_map (λ way. record { letter = way.letter; bytes = bytes_of cached line }) (way_of cached.residency line)
+copy_in cached line =
+    option_map (λ way. record { letter = way.letter; bytes = bytes_of cached line }) (way_of cached.residency line)
 
 -- a copy with another letter, and with other bytes
 abbrev pub copy_with_letter : Letter → Copy → Copy
@@ -60,5 +63,7 @@ abbrev pub with_bytes : Cached → ℕ → List ℕ → Cached
 with_bytes cached line new =
     let rows = slice_index_or cached.bytes (set_number cached.residency line) [] in
     record cached {
-      bytes = slice_set cached.bytes (set_number cached.residency line) (put_in (set_of cached.residency line) rows line new);
+      bytes =
+          slice_set cached.bytes (set_number cached.residency line)
+          (put_in (set_of cached.residency line) rows line new);
     }

@@ -4,7 +4,8 @@ use Rattle.el_base.specs.declared.outcomes.Need.{Need}
 use Rattle.moesi.specs.declared.letter.Letter.{Letter}
 use Rattle.moesi.specs.declared.letter.Letter.TheVariants.{M}
 use Rattle.cache_sets.specs.declared.evicted.Evicted.{Evicted}
-use Rattle.residency.specs.Cache.{cleared, committed, evicted_by, filled_with, lettered, marked, touched, without_line, write_bit}
+use Rattle.residency.specs.Cache.{cleared, committed, evicted_by, filled_with, lettered, marked, touched, without_line}
+use Rattle.residency.specs.Cache.{write_bit}
 use Rattle.cache_sets.specs.Cached.{Cached, copy_in, copy_with_bytes, copy_with_letter}
 use Rattle.residency.specs.WellFormed.{IsWellFormed}
 
@@ -60,17 +61,22 @@ pub record IsCleared (old new : Cached) : Type 0 where
 pub record IsCommitted (old new : Cached) : Type 0 where
   pub ways : new.ways ≡ old.ways
   pub residency : new.residency ≡ committed old.residency
-  pub written : (l : ℕ) → write_bit old.residency l ≡ true → copy_in new l ≡ option_map (copy_with_letter M) (copy_in old l)
+  pub written : (l : ℕ) → write_bit old.residency l ≡ true →
+      copy_in new l ≡ option_map (copy_with_letter M) (copy_in old l)
   pub others : (l : ℕ) → write_bit old.residency l ≡ false → copy_in new l ≡ copy_in old l
 
 -- a line came, and another one left for it, if one did
-pub record IsFilledWith (old new : Cached) (line : ℕ) (letter : Letter) (bytes : List ℕ) (evicted : Option Evicted) : Type 0 where
+pub record IsFilledWith (old new : Cached) (line : ℕ) (letter : Letter) (bytes : List ℕ)
+    (evicted : Option Evicted) : Type 0 where
   pub ways : new.ways ≡ old.ways
   pub residency : new.residency ≡ filled_with old.ways old.residency line letter
   -- the line that left is the definition's
-  pub victim : option_map (λ gone. gone.line.number) evicted ≡ option_map (λ way. way.line) (evicted_by old.ways old.residency line)
+  pub victim : option_map (λ gone. gone.line.number) evicted ≡ option_map (λ way. way.line)
+      (evicted_by old.ways old.residency line)
   pub here : copy_in new line ≡ Some (record { letter = letter; bytes = bytes })
   -- it was there with what is told of it, and is there no more
-  pub left : (gone : Evicted) → evicted ≡ Some gone → copy_in old gone.line.number ≡ Some (record { letter = gone.letter; bytes = gone.bytes })
+  pub left : (gone : Evicted) → evicted ≡ Some gone →
+      copy_in old gone.line.number ≡ Some (record { letter = gone.letter; bytes = gone.bytes })
   pub gone : (gone : Evicted) → evicted ≡ Some gone → copy_in new gone.line.number ≡ None
-  pub others : (l : ℕ) → l ≢ line → ((gone : Evicted) → evicted ≡ Some gone → l ≢ gone.line.number) → copy_in new l ≡ copy_in old l
+  pub others : (l : ℕ) → l ≢ line → ((gone : Evicted) → evicted ≡ Some gone → l ≢ gone.line.number) →
+      copy_in new l ≡ copy_in old l

@@ -1,5 +1,6 @@
 -- how a cache's fields show its sets, and what they keep
-use Rattle.std.specs.Prelude.{◌≡◌, ◌≢◌, ◌≤◌, ◌<◌, ◌%◌, ℕ, true, All, List, [], map, length, sum_by, nat_lt, if◌then◌else◌, slice_index_or, slice_set}
+use Rattle.std.specs.Prelude.{◌≡◌, ◌≢◌, ◌≤◌, ◌<◌, ◌%◌, ℕ, true, All, List, [], map, length, sum_by, nat_lt}
+use Rattle.std.specs.Prelude.{if◌then◌else◌, slice_index_or, slice_set}
 use Rattle.std.specs.Prelude.{Option, None, Some, option_map, vec_capacity}
 use Rattle.std.specs.Int.{IsPowerOfTwo}
 use Rattle.std.specs.Option.{option_map_or}
@@ -29,7 +30,12 @@ number_of line = line.way.line.number
 -- a way as the definition has it, and that of a line
 abbrev pub shown_way : known.Way → Way
 shown_way way =
-    record { line = way.line.number; letter = way.letter; read = has_need Read way.bits; write = has_need Write way.bits }
+    record {
+      line = way.line.number;
+      letter = way.letter;
+      read = has_need Read way.bits;
+      write = has_need Write way.bits;
+    }
 
 abbrev pub shown_line : code.Line → Way
 shown_line line = shown_way line.way
@@ -78,7 +84,8 @@ new_way line letter = record { line = line; letter = letter; bits = bits_of_numb
 abbrev pub IsVictimPlace : List code.Line → Option ℕ → Type 0
 IsVictimPlace lines None = victim_in (map shown_line lines) ≡ None
 IsVictimPlace lines (Some place) =
-    (place < length lines) × ((d : code.Line) → victim_in (map shown_line lines) ≡ Some (shown_line (slice_index_or lines place d)))
+    (place < length lines)
+    × ((d : code.Line) → victim_in (map shown_line lines) ≡ Some (shown_line (slice_index_or lines place d)))
 
 -- a set has as much room as it had
 abbrev pub HasRoom : Set → Set → Type 0

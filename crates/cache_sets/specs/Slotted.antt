@@ -41,7 +41,8 @@ pub record IsLent (pool : Pooled) (cache : Slotted) : Type 0 where
 
 -- a cache of so many sets of so many ways, without lines
 abbrev pub empty_slotted : ℕ → ℕ → ℕ → Slotted
-empty_slotted ways sets owner = record { ways = ways; residency = empty_cache sets; owner = owner; slots = replicate sets [] }
+empty_slotted ways sets owner =
+    record { ways = ways; residency = empty_cache sets; owner = owner; slots = replicate sets [] }
 
 -- the slot of a line of a set, of which the slots are given in the order of its lines
 abbrev pub slot_in : List Way → List Slot → ℕ → Slot
@@ -51,7 +52,8 @@ slot_in (way ∷ ways) (slot ∷ slots) line = if way.line == line then slot els
 
 -- the slot of a line
 abbrev pub slot_of : Slotted → ℕ → Slot
-slot_of cache line = slot_in (set_of cache.residency line) (slice_index_or cache.slots (set_number cache.residency line) []) line
+slot_of cache line =
+    slot_in (set_of cache.residency line) (slice_index_or cache.slots (set_number cache.residency line) []) line
 
 -- a line of a cache got these bytes in its pool
 pub record IsWrittenIn (old new : Pooled) (cache : Slotted) (line : ℕ) (bytes : List ℕ) : Type 0 where

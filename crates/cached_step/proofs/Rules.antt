@@ -42,15 +42,18 @@ touch_word : (word : Option ℕ) (view : HartView) (span : Span) (room : ℕ) �
 touch_word None view span room = refl
 touch_word (Some word) view span room = touch_insn (decoded word) view span room
 
-pub next_touch-action : (flat : FlatState) (h : ℕ) → next_touch flat h ≡ touch_of (footprint (action_of flat (view_of flat h)))
-next_touch-action flat h = touch_word (code_word flat.code (view_of flat h).pc) (view_of flat h) (span_of flat) (room_of flat)
+pub next_touch-action : (flat : FlatState) (h : ℕ) →
+    next_touch flat h ≡ touch_of (footprint (action_of flat (view_of flat h)))
+next_touch-action flat h =
+    touch_word (code_word flat.code (view_of flat h).pc) (view_of flat h) (span_of flat) (room_of flat)
 
 -- an execution needs nothing
 no_need : (execution : Execution) (line : LineAddr) (need : Need) → ended_by execution ≡ ends.Needs line need → ⊥
 no_need (Stops status) line need is = cc
 no_need (Goes view store append) line need is = cc
 
-ran : (execution : Execution) (ended : Ended) (touch : Option Touch) → ended ≡ ended_by execution → ShowsRule ended (Runs touch)
+ran : (execution : Execution) (ended : Ended) (touch : Option Touch) → ended ≡ ended_by execution →
+    ShowsRule ended (Runs touch)
 ran execution ended touch is = λ line need needed. no_need execution line need (sym is ∙ needed)
 
 tested : (b : Bool) (line : ℕ) (need : Need) (touch : Option Touch) (execution : Execution) (ended : Ended) →
@@ -59,14 +62,15 @@ tested : (b : Bool) (line : ℕ) (need : Need) (touch : Option Touch) (execution
 tested true line need touch execution ended is = ran execution ended touch is
 tested false line need touch execution ended is = is
 
-touched_rule : (state : ModelState) (h : ℕ) (cache : Cached) (line : ℕ) (need : Need) (execution : Execution) (ended : Ended) →
-    cache.residency ≡ cache_of state h →
-    ended ≡ ended_of (if permitted cache line need then None else Some (record { line = line_addr line; need = need })) execution →
-    ShowsRule ended (touch_rule state h (Some (record { line = line; need = need })))
+touched_rule : (state : ModelState) (h : ℕ) (cache : Cached) (line : ℕ) (need : Need) (execution : Execution)
+    (ended : Ended) → cache.residency ≡ cache_of state h →
+    ended ≡ ended_of (if permitted cache line need then None else Some (record { line = line_addr line; need = need }))
+    execution → ShowsRule ended (touch_rule state h (Some (record { line = line; need = need })))
 touched_rule state h cache line need execution ended same is =
     subst
     (λ (residency : List (List Way)).
-    ShowsRule ended (if may_of (letter_of residency line) need then Runs (Some (record { line = line; need = need })) else Misses line need))
+    ShowsRule ended (if may_of (letter_of residency line) need then Runs (Some (record { line = line; need = need }))
+    else Misses line need))
     same (tested (permitted cache line need) line need (Some (record { line = line; need = need })) execution ended is)
 
 access_rule : (state : ModelState) (h : ℕ) (cache : Cached) (access : Access) (execution : Execution) (ended : Ended) →
@@ -80,8 +84,9 @@ access_rule state h cache _ execution ended same is = ran execution ended None i
 
 pub shows_rule : (state : ModelState) (h : ℕ) (cache : Cached) (execution : Execution) (ended : Ended) →
     cache.residency ≡ cache_of state h →
-    ended ≡ ended_of (lacking (permitted cache) (footprint (action_of state.committed (view_of state.committed h)))) execution →
-    ShowsRule ended (touch_rule state h (next_touch state.committed h))
+    ended ≡ ended_of (lacking (permitted cache) (footprint (action_of state.committed (view_of state.committed h))))
+    execution → ShowsRule ended (touch_rule state h (next_touch state.committed h))
 shows_rule state h cache execution ended same is =
     subst (λ touch. ShowsRule ended (touch_rule state h touch)) (sym (next_touch-action state.committed h))
-    (access_rule state h cache (footprint (action_of state.committed (view_of state.committed h))) execution ended same is)
+    (access_rule state h cache (footprint (action_of state.committed (view_of state.committed h)))
+    execution ended same is)

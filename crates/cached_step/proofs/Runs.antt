@@ -26,8 +26,8 @@ use Rattle.rv_alu.specs.declared.view.HartView.{HartView}
 use Rattle.cached_step.specs.CacheRun.{HasRun, IsModified, IsUsed, PutsIn, PutsInPool, line_after, permitted}
 
 -- a line of which the copy is as it was is there still
-pub stays_resident : (old new : Cached) (line : ℕ) → copy_in new line ≡ copy_in old line → is_resident old.residency line ≡ true →
-    is_resident new.residency line ≡ true
+pub stays_resident : (old new : Cached) (line : ℕ) → copy_in new line ≡ copy_in old line →
+    is_resident old.residency line ≡ true → is_resident new.residency line ≡ true
 stays_resident old new line same there = copy_resident new line _ (same ∙ copy_is old line there)
 
 -- what a store, if there was one, made of the cache and of its pool
@@ -36,7 +36,8 @@ module _ (cache : Slotted) (old new : Pooled) where
   MayPut store = MatchOption store (new ≡ old) (λ s. PutsInPool cache old new s.address s.len s.value)
 
   pub put_lent : (store : Option Store) → MayPut store →
-      MatchOption store (lent new cache ≡ lent old cache) (λ s. PutsIn (lent old cache) (lent new cache) s.address s.len s.value)
+      MatchOption store (lent new cache ≡ lent old cache)
+      (λ s. PutsIn (lent old cache) (lent new cache) s.address s.len s.value)
   put_lent None same = ap (λ pool. lent pool cache) same
   put_lent (Some store) put = put.puts
 
@@ -49,7 +50,8 @@ module _ (cache : Slotted) (old new : Pooled) where
   others_put (Some store) put = put.others
 
 -- nothing was touched
-untouched : (old mid new : Cached) (action : Action) → mid ≡ old → new ≡ mid → touch_of (footprint action) ≡ None → HasRun old new action None
+untouched : (old mid new : Cached) (action : Action) → mid ≡ old → new ≡ mid → touch_of (footprint action) ≡ None →
+    HasRun old new action None
 untouched old mid new action same still none = record {
   ways = ap (λ cache. cache.ways) (still ∙ same);
   residency = ap (λ cache. cache.residency) (still ∙ same) ∙ sym (ap (after_touch old.residency) none);
@@ -66,9 +68,9 @@ was_read old mid new action line same used after = record {
 }
 
 -- a line was written
-was_written : (old mid new : Cached) (action : Action) (store : Store) → permitted old (line_number store.address) needs.Write ≡ true →
-    PutsIn old mid store.address store.len store.value → IsModified mid new (line_number store.address) →
-    after_touch old.residency (touch_of (footprint action))
+was_written : (old mid new : Cached) (action : Action) (store : Store) →
+    permitted old (line_number store.address) needs.Write ≡ true → PutsIn old mid store.address store.len store.value →
+    IsModified mid new (line_number store.address) → after_touch old.residency (touch_of (footprint action))
     ≡ lettered (touched old.residency (line_number store.address)) (line_number store.address) M →
     HasRun old new action (Some store)
 was_written old mid new action store may puts modified after = record {
@@ -90,18 +92,26 @@ was_written old mid new action store may puts modified after = record {
 }
 
 -- an action that was permitted has run
-pub has_run : (old mid new : Cached) (action : Action) (view : HartView) (byte : ℕ → ℕ) → IsReady (permitted old) action →
-    MatchOption (store_in (perform action view byte)) (mid ≡ old) (λ store. PutsIn old mid store.address store.len store.value) →
-    IsUsed (footprint action) mid new → HasRun old new action (store_in (perform action view byte))
-has_run old mid new (actions.Append address len) view byte ready same used = was_read old mid new _ (line_number address) same used refl
-has_run old mid new (actions.Load width rd address) view byte ready same used = was_read old mid new _ (line_number address) same used refl
-has_run old mid new (actions.LoadReserved rd address) view byte ready same used = was_read old mid new _ (line_number address) same used refl
+pub has_run : (old mid new : Cached) (action : Action) (view : HartView) (byte : ℕ → ℕ) →
+    IsReady (permitted old) action →
+    MatchOption (store_in (perform action view byte)) (mid ≡ old)
+    (λ store. PutsIn old mid store.address store.len store.value) → IsUsed (footprint action) mid new →
+    HasRun old new action (store_in (perform action view byte))
+has_run old mid new (actions.Append address len) view byte ready same used =
+    was_read old mid new _ (line_number address) same used refl
+has_run old mid new (actions.Load width rd address) view byte ready same used =
+    was_read old mid new _ (line_number address) same used refl
+has_run old mid new (actions.LoadReserved rd address) view byte ready same used =
+    was_read old mid new _ (line_number address) same used refl
 has_run old mid new (actions.Store address len value) view byte ready puts used =
-    was_written old mid new _ _ (store_ready (permitted old) (actions.Store address len value) view byte ready).permitted puts used refl
+    was_written old mid new _ _
+    (store_ready (permitted old) (actions.Store address len value) view byte ready).permitted puts used refl
 has_run old mid new (actions.StoreConditional rd address value) view byte ready puts used =
-    was_written old mid new _ _ (store_ready (permitted old) (actions.StoreConditional rd address value) view byte ready).permitted puts used refl
+    was_written old mid new _ _
+    (store_ready (permitted old) (actions.StoreConditional rd address value) view byte ready).permitted puts used refl
 has_run old mid new (actions.Amo op rd address source) view byte ready puts used =
-    was_written old mid new _ _ (store_ready (permitted old) (actions.Amo op rd address source) view byte ready).permitted puts used refl
+    was_written old mid new _ _
+    (store_ready (permitted old) (actions.Amo op rd address source) view byte ready).permitted puts used refl
 has_run old mid new (actions.Trap cause) view byte ready same used = untouched old mid new _ same used refl
 has_run old mid new (actions.Exit code) view byte ready same used = untouched old mid new _ same used refl
 has_run old mid new (actions.Put rd value) view byte ready same used = untouched old mid new _ same used refl

@@ -15,13 +15,16 @@ set-inside bytes from n i place byte is inside =
     ap (λ k. window from n (slice_set bytes k byte)) is
     ∙ ap (take n) (drop-set-add from bytes i byte) ∙ take-set-lt n (drop from bytes) i byte inside
 
-set-behind : (bytes : List ℕ) (from n place byte : ℕ) → from + n ≤ place → window from n (slice_set bytes place byte) ≡ window from n bytes
+set-behind : (bytes : List ℕ) (from n place byte : ℕ) → from + n ≤ place →
+    window from n (slice_set bytes place byte) ≡ window from n bytes
 set-behind bytes from n place byte past =
     let is : place ≡ from + (place - from) = omega arith in
     ap (λ k. window from n (slice_set bytes k byte)) is
-    ∙ ap (take n) (drop-set-add from bytes (place - from) byte) ∙ take-set-le n (drop from bytes) (place - from) byte (omega arith)
+    ∙ ap (take n) (drop-set-add from bytes (place - from) byte) ∙ take-set-le n (drop from bytes) (place - from)
+    byte (omega arith)
 
-set-before : (bytes : List ℕ) (from n place byte : ℕ) → place < from → window from n (slice_set bytes place byte) ≡ window from n bytes
+set-before : (bytes : List ℕ) (from n place byte : ℕ) → place < from →
+    window from n (slice_set bytes place byte) ≡ window from n bytes
 set-before bytes from n place byte under = ap (take n) (drop-set-lt from bytes place byte under)
 
 -- all of them are seen, or none
@@ -29,7 +32,8 @@ pub put-inside : (bytes : List ℕ) (from n i place len value : ℕ) → place �
     window from n (put_bytes bytes place len value) ≡ put_bytes (window from n bytes) i len value
 put-inside bytes from n i place zero value is inside = refl
 put-inside bytes from n i place (suc len) value is inside =
-    put-inside (slice_set bytes place (value % 256)) from n (i + 1) (place + 1) len (value / 256) (omega arith) (omega arith)
+    put-inside (slice_set bytes place (value % 256)) from n (i + 1) (place + 1) len (value / 256)
+    (omega arith) (omega arith)
     ∙ ap (λ w. put_bytes w (i + 1) len (value / 256)) (set-inside bytes from n i place (value % 256) is (omega arith))
 
 pub put-behind : (bytes : List ℕ) (from n place len value : ℕ) → from + n ≤ place →

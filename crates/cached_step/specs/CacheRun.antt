@@ -43,12 +43,15 @@ pub record PutsInPool (cache : Slotted) (old new : Pooled) (address len value : 
   pub kept : IsLent new cache
   pub others : LeavesOthers cache.owner old new
 
--- the copies after a run: without a store each is as it was, and with one the line of the store has its bytes and is modified
+-- the copies after a run: without a store each is as it was, and with one the line of the
+-- store has its bytes and is modified
 abbrev pub CopiesAfter : Cached → Cached → Option Store → Type 0
 CopiesAfter old new None = (line : ℕ) → copy_in new line ≡ copy_in old line
-CopiesAfter old new (Some store) = IsStoredIn old new (line_number store.address) (line_after old store.address store.len store.value)
+CopiesAfter old new (Some store) =
+    IsStoredIn old new (line_number store.address) (line_after old store.address store.len store.value)
 
--- an action ran with this store, if with any: the line that it touched is the most recent one of its set, and a written one is modified
+-- an action ran with this store, if with any: the line that it touched is the most recent one of its
+-- set, and a written one is modified
 pub record HasRun (old new : Cached) (action : Action) (store : Option Store) : Type 0 where
   pub ways : new.ways ≡ old.ways
   pub residency : new.residency ≡ after_touch old.residency (touch_of (footprint action))

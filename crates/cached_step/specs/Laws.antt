@@ -27,7 +27,8 @@ use Rattle.rv_flat.specs.Step.{action_of, applied, execution_of}
 use Rattle.cached_step.specs.CacheRun.{HasRun, permitted}
 use Rattle.cached_step.specs.Memory.{IsPlaced, TellsMemory}
 
--- how the rule of a step shows in how its action ends: a rule that runs it in no need, and one that misses in the need of that line
+-- how the rule of a step shows in how its action ends: a rule that runs it in no need, and one that
+-- misses in the need of that line
 abbrev pub ShowsRule : Ended → PlainRule → Type 0
 ShowsRule ended (Runs touch) = (line : LineAddr) (need : Need) → ended ≢ Needs line need
 ShowsRule ended (Misses line need) = ended ≡ Needs (line_addr line) need
@@ -38,8 +39,8 @@ ShowsRule ended (Arms word) = ⊥
 abbrev pub StepsShowTheirRule : Type 0
 StepsShowTheirRule = (state : ModelState) (h : ℕ) (cache : Cached) (execution : Execution) (ended : Ended) →
     cache.residency ≡ cache_of state h →
-    ended ≡ ended_of (lacking (permitted cache) (footprint (action_of state.committed (view_of state.committed h)))) execution →
-    ShowsRule ended (touch_rule state h (next_touch state.committed h))
+    ended ≡ ended_of (lacking (permitted cache) (footprint (action_of state.committed (view_of state.committed h))))
+    execution → ShowsRule ended (touch_rule state h (next_touch state.committed h))
 
 -- the bytes that an action touches are in the hart's cache those of memory, where its letters permit the action
 abbrev pub CachedBytesEqualMemory : Type 0
@@ -57,15 +58,17 @@ PermittedStepsAreFlat = (copies : Copies) (flat : FlatState) (h : ℕ) (view : H
 
 -- after an action ran over a cache, caches and main memory tell the bytes of memory after it
 abbrev pub CachesTellMemoryAfter : Type 0
-CachesTellMemoryAfter = (copies : Copies) (flat : FlatState) (h room : ℕ) (new : Cached) (action : Action) (view : HartView) (byte : ℕ → ℕ) →
-    TellsMemory copies flat → IsInPlace (span_of flat) room action →
+CachesTellMemoryAfter =
+    (copies : Copies) (flat : FlatState) (h room : ℕ) (new : Cached) (action : Action) (view : HartView)
+    (byte : ℕ → ℕ) → TellsMemory copies flat → IsInPlace (span_of flat) room action →
     HasRun (cache_at copies.caches h) new action (store_in (perform action view byte)) →
     TellsMemory (copies_with copies h new) (applied flat h view (perform action view byte))
 
 -- the line that an action touches lies in memory
 abbrev pub TouchedLinesAreThere : Type 0
 TouchedLinesAreThere = (copies : Copies) (flat : FlatState) (room : ℕ) (action : Action) (touch : Touch) →
-    IsPlaced copies flat → IsInPlace (span_of flat) room action → touch_of (footprint action) ≡ Some touch → HasLine copies touch.line
+    IsPlaced copies flat → IsInPlace (span_of flat) room action → touch_of (footprint action) ≡ Some touch →
+    HasLine copies touch.line
 
 -- a cache stays well formed, and has marks where it had them
 pub record StaysInForm (old new : Cached) : Type 0 where

@@ -1,6 +1,7 @@
 -- Counting an event.
 use Rattle.std.proofs.Common.{◌≡◌, ℕ, ◌+◌, ◌*◌, ◌^◌, ◌<◌, ◌≤◌, ◌==◌, Bool, true, false, ◌&&◌}
-use Rattle.std.proofs.Common.{IsTrue, List, [], ◌∷◌, ◌++◌, length, set, cond, refl, ap, sym, subst, ◌∙◌, append-nil, arith}
+use Rattle.std.proofs.Common.{IsTrue, List, [], ◌∷◌, ◌++◌, length, set, cond, refl, ap, sym, subst, ◌∙◌, append-nil}
+use Rattle.std.proofs.Common.{arith}
 use Rattle.std.specs.Prelude.{nat_le, nat_lt}
 use Rattle.std.specs.List.{flat_map, list_all}
 use Rattle.std.proofs.lemmas.Bool.Decides.{nat_tests}
@@ -17,7 +18,8 @@ use Rattle.el_base.specs.declared.entries.Entry.{Entry}
 use Rattle.el_base.specs.declared.outcomes.Cause.TheVariants.{Room, Lines, Long, Call, Mixed}
 use Rattle.el_base.specs.declared.outcomes.Outcome.{Outcome}
 use Rattle.el_base.specs.declared.outcomes.Outcome.TheVariants.{Idle, Stalled, Missed, Ran, Began, Buffered}
-use Rattle.el_base.specs.declared.outcomes.Outcome.TheVariants.{Committed, RolledBack, Ordered, Served, Blocked, Delivered, Armed, LetGo}
+use Rattle.el_base.specs.declared.outcomes.Outcome.TheVariants.{Committed, RolledBack, Ordered, Served, Blocked}
+use Rattle.el_base.specs.declared.outcomes.Outcome.TheVariants.{Delivered, Armed, LetGo}
 use Rattle.el_base.proofs.Laws.Tests.{apart_by_test, number_of_test}
 use Rattle.chronicle.specs.Counting.{HasRoom, IsCounted, KeepsCounts, tally_at, with_loss}
 
@@ -55,16 +57,27 @@ pub entry_counted : (tally : Tally) (hart : ℕ) (entry : Entry) (own : Bool) �
 unfolding of_entry
 entry_counted tally hart entry true e =
     counted_by tally (of_outcome entry.outcome) (has_lost hart entry.outcome) (no_conflict entry.outcome)
-    ∙ ap (λ own. plus tally (record (cond own (of_outcome entry.outcome) nothing) { conflict = cond (has_lost hart entry.outcome) 1 0 })) (sym e)
+    ∙ ap
+    (λ own. plus tally
+    (record (cond own (of_outcome entry.outcome) nothing) {
+      conflict =
+          cond (has_lost hart entry.outcome) 1 0;
+    })) (sym e)
 entry_counted tally hart entry false e =
     ap (λ t. with_loss t (has_lost hart entry.outcome)) (sym (plus_nothing tally))
     ∙ counted_by tally nothing (has_lost hart entry.outcome) refl
-    ∙ ap (λ own. plus tally (record (cond own (of_outcome entry.outcome) nothing) { conflict = cond (has_lost hart entry.outcome) 1 0 })) (sym e)
+    ∙ ap
+    (λ own. plus tally
+    (record (cond own (of_outcome entry.outcome) nothing) {
+      conflict =
+          cond (has_lost hart entry.outcome) 1 0;
+    })) (sym e)
 
 -- the tally of a hart after the own event of one of them
 own_counted : (tallies : List Tally) (number hart : ℕ) (own : Tally) (outcome : Outcome) → number < length tallies →
     own ≡ plus (tally_at tallies number) (of_outcome outcome) → (b : Bool) → (number == hart) ≡ b →
-    tally_at (set tallies number own) hart ≡ cond b (plus (tally_at tallies hart) (of_outcome outcome)) (tally_at tallies hart)
+    tally_at (set tallies number own) hart ≡ cond b (plus (tally_at tallies hart) (of_outcome outcome))
+    (tally_at tallies hart)
 own_counted tallies number hart own outcome there counted true e =
     let same = number_of_test number hart e in
     get_or-set_at tallies number hart own nothing (sym same) there
@@ -73,15 +86,16 @@ own_counted tallies number hart own outcome there counted true e =
 own_counted tallies number hart own outcome there counted false e =
     get_or-set_other tallies number hart own nothing (λ same. apart_by_test number hart e (sym same))
 
-pub own_then_losses : (tallies now : List Tally) (entry : Entry) (own : Tally) → entry.event.hart.number < length tallies →
-    own ≡ plus (tally_at tallies entry.event.hart.number) (of_outcome entry.outcome) →
-    ((hart : ℕ) → hart < 8 → tally_at now hart
+pub own_then_losses : (tallies now : List Tally) (entry : Entry) (own : Tally) →
+    entry.event.hart.number < length tallies → own ≡ plus (tally_at tallies entry.event.hart.number)
+    (of_outcome entry.outcome) → ((hart : ℕ) → hart < 8 → tally_at now hart
     ≡ with_loss (tally_at (set tallies entry.event.hart.number own) hart) (has_lost hart entry.outcome)) →
     (hart : ℕ) → hart < 8 → tally_at now hart ≡ plus (tally_at tallies hart) (of_entry hart entry)
 own_then_losses tallies now entry own there counted losses hart small =
     losses hart small
     ∙ ap (λ t. with_loss t (has_lost hart entry.outcome))
-    (own_counted tallies entry.event.hart.number hart own entry.outcome there counted (entry.event.hart.number == hart) refl)
+    (own_counted tallies entry.event.hart.number hart own entry.outcome there counted
+    (entry.event.hart.number == hart) refl)
     ∙ entry_counted (tally_at tallies hart) hart entry (entry.event.hart.number == hart) refl
 
 -- where one more event can be counted, one more conflict can
@@ -125,7 +139,8 @@ one_at_most : (b : Bool) → cond b 1 0 ≤ 1
 one_at_most b = grind (arith, nat_tests)
 
 -- an event counts for no more than one instruction's worth where its outcome does
-pub entry_small : (entry : Entry) → IsTallyOf 1 (of_outcome entry.outcome) → (hart : ℕ) → IsTallyOf 1 (of_entry hart entry)
+pub entry_small : (entry : Entry) → IsTallyOf 1 (of_outcome entry.outcome) → (hart : ℕ) →
+    IsTallyOf 1 (of_entry hart entry)
 unfolding of_entry
 entry_small entry small hart =
     with_conflict_small (cond (entry.event.hart.number == hart) (of_outcome entry.outcome) nothing)
@@ -151,8 +166,9 @@ idle_counted tally hart entry idle = sym (ap (plus tally) (idle_nothing hart ent
 pub idle_small : (entry : Entry) → entry.outcome ≡ Idle → (hart : ℕ) → IsTallyOf 1 (of_entry hart entry)
 idle_small entry idle hart = subst (IsTallyOf 1) (sym (idle_nothing hart entry idle)) nothing_small
 
-one_has_room : (n : ℕ) → n + 1 < 2 ^ 32 → (x : ℕ) (others room : Bool) → IsTrue (nat_le x (n * most_effects) && others) →
-    (IsTrue others → IsTrue room) → IsTrue (nat_lt (x + most_effects) (2 ^ 64) && room)
+one_has_room : (n : ℕ) → n + 1 < 2 ^ 32 → (x : ℕ) (others room : Bool) →
+    IsTrue (nat_le x (n * most_effects) && others) → (IsTrue others → IsTrue room) →
+    IsTrue (nat_lt (x + most_effects) (2 ^ 64) && room)
 one_has_room n few x others room small rest = grind (arith, nat_tests)
 
 small_has_room : (n : ℕ) → n + 1 < 2 ^ 32 → (xs : List ℕ) → IsTrue (list_all (λ x. nat_le x (n * most_effects)) xs) →
@@ -214,7 +230,8 @@ one_counted entries entry old new counted tallies small steps few =
       small = λ hart.
           subst (λ t. IsTallyOf (length (entries ++ entry ∷ [])) t) (sym (more hart))
           (subst (λ n. IsTallyOf n (plus (tally_of hart entries) (of_entry hart entry))) (sym count)
-          (plus_small (length entries) (tally_of hart entries) (of_entry hart entry) (counted.small hart) (small hart)));
+          (plus_small (length entries) (tally_of hart entries) (of_entry hart entry)
+          (counted.small hart) (small hart)));
     }
 
 -- counts of entries of a history that has a place left can take one more

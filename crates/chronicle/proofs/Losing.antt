@@ -1,5 +1,6 @@
 -- Counting the losers of an event, one hart after another.
-use Rattle.std.proofs.Common.{◌≡◌, ◌≢◌, ℕ, ◌+◌, ◌<◌, ◌==◌, nat_lt, Bool, true, false, ◌&&◌, List, length, set, refl, ap, sym, ◌∙◌, arith}
+use Rattle.std.proofs.Common.{◌≡◌, ◌≢◌, ℕ, ◌+◌, ◌<◌, ◌==◌, nat_lt, Bool, true, false, ◌&&◌, List, length, set, refl, ap}
+use Rattle.std.proofs.Common.{sym, ◌∙◌, arith}
 use Rattle.std.proofs.lemmas.Bool.Decides.{nat_tests}
 use Rattle.std.proofs.lemmas.Grind.{get_or-set_at}
 use Rattle.std.proofs.lemmas.List.{get_or-set_other}
@@ -74,7 +75,9 @@ pub room_left : (lost : ℕ → Bool) (before now : List Tally) (number : ℕ) �
 room_left lost before now number counted within =
     counted number within ∙ ap (with_loss (tally_at before number)) (not_below number number (lost number) refl)
 
-pub all_counted : (lost : ℕ → Bool) (before now : List Tally) (number : ℕ) → number ≡ 8 → CountedBelow lost before now number →
-    (hart : ℕ) → hart < 8 → tally_at now hart ≡ with_loss (tally_at before hart) (lost hart)
+pub all_counted : (lost : ℕ → Bool) (before now : List Tally) (number : ℕ) → number ≡ 8 →
+    CountedBelow lost before now number → (hart : ℕ) → hart < 8 →
+    tally_at now hart ≡ with_loss (tally_at before hart) (lost hart)
 all_counted lost before now number whole counted hart small =
-    counted hart small ∙ ap (with_loss (tally_at before hart)) (ap (λ n. nat_lt hart n && lost hart) whole ∙ all_below hart (lost hart) small)
+    counted hart small ∙ ap (with_loss (tally_at before hart))
+    (ap (λ n. nat_lt hart n && lost hart) whole ∙ all_below hart (lost hart) small)

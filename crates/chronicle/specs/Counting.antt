@@ -1,5 +1,6 @@
 -- Counting the events of a history, one after another.
-use Rattle.std.specs.Prelude.{ℕ, ◌≡◌, ◌<◌, ◌≤◌, ◌+◌, ◌*◌, ◌^◌, Bool, List, IsTrue, nat_lt, get_or, length, if◌then◌else◌}
+use Rattle.std.specs.Prelude.{ℕ, ◌≡◌, ◌<◌, ◌≤◌, ◌+◌, ◌*◌, ◌^◌, Bool, List, IsTrue, nat_lt, get_or, length}
+use Rattle.std.specs.Prelude.{if◌then◌else◌}
 use Rattle.std.specs.List.{list_all}
 use Rattle.chronicle.specs.Chronicle.{Chronicle}
 use Rattle.chronicle.specs.Serial.{most_effects, serial}

@@ -1,11 +1,13 @@
 -- What a history says of one hart: sums over its entries.
-use Rattle.std.specs.Prelude.{ℕ, ◌+◌, ◌*◌, ◌^◌, Bool, List, [], ◌∷◌, ◌==◌, if◌then◌else◌, IsTrue, nat_lt, nat_le, sum_by, is_some}
+use Rattle.std.specs.Prelude.{ℕ, ◌+◌, ◌*◌, ◌^◌, Bool, List, [], ◌∷◌, ◌==◌, if◌then◌else◌, IsTrue, nat_lt, nat_le}
+use Rattle.std.specs.Prelude.{sum_by, is_some}
 use Rattle.std.specs.List.{list_all}
 use Rattle.el_base.specs.Winners.{winner_over}
 use Rattle.el_base.specs.declared.entries.Entry.{Entry}
 use Rattle.el_base.specs.declared.outcomes.Cause.TheVariants.{Room, Lines, Long, Call, Mixed}
 use Rattle.el_base.specs.declared.outcomes.Outcome.{Outcome}
-use Rattle.el_base.specs.declared.outcomes.Outcome.TheVariants.{Stalled, Missed, Ran, Began, Committed, RolledBack, Blocked}
+use Rattle.el_base.specs.declared.outcomes.Outcome.TheVariants.{Stalled, Missed, Ran, Began, Committed, RolledBack}
+use Rattle.el_base.specs.declared.outcomes.Outcome.TheVariants.{Blocked}
 use Rattle.chronicle.specs.Serial.{most_effects}
 use Rattle.chronicle.specs.declared.tally.Tally.{Tally}
 

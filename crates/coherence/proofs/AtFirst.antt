@@ -1,5 +1,6 @@
 -- before the first event no cache has a line, and main memory has the program's bytes
-use Rattle.std.proofs.Common.{◌≡◌, ◌∙◌, ◌<◌, ◌≤◌, ◌+◌, ◌-◌, ◌/◌, ◌%◌, arith, zero-add, ℕ, zero, suc, false, List, [], length, map, replicate, Option}
+use Rattle.std.proofs.Common.{◌≡◌, ◌∙◌, ◌<◌, ◌≤◌, ◌+◌, ◌-◌, ◌/◌, ◌%◌, arith, zero-add, ℕ, zero, suc, false, List, []}
+use Rattle.std.proofs.Common.{length, map, replicate, Option}
 use Rattle.std.proofs.Common.{None, is_some, ap, refl, sym}
 use Rattle.std.specs.List.{range_with_len}
 use Rattle.std.specs.Prelude.{slice_index_or}
@@ -34,7 +35,8 @@ nobody (suc harts) ways sets zero line = empty_absent ways sets line
 nobody (suc harts) ways sets (suc h) line = nobody harts ways sets h line
 
 no_copies : (harts ways sets line h : ℕ) → copies_of (replicate harts (empty_cached ways sets)) line h ≡ None
-no_copies harts ways sets line h = no_copy (cache_at (replicate harts (empty_cached ways sets)) h) line (nobody harts ways sets h line)
+no_copies harts ways sets line h =
+    no_copy (cache_at (replicate harts (empty_cached ways sets)) h) line (nobody harts ways sets h line)
 
 -- a line of which there is no copy
 uncopied : (bytes behind : List ℕ) (copies : ℕ → Option Copy) → ((h : ℕ) → copies h ≡ None) → behind ≡ bytes →
@@ -46,8 +48,8 @@ uncopied bytes behind copies none is = record {
   memory = λ clean. is;
 }
 
-pub first_coherent : (program : Program) (first count harts ways sets : ℕ) (lines : List (List ℕ)) (caches : List Cached) →
-    first ≡ program.base / 64 → lines ≡ map (line_in program.bytes) (range_with_len 0 count) →
+pub first_coherent : (program : Program) (first count harts ways sets : ℕ) (lines : List (List ℕ))
+    (caches : List Cached) → first ≡ program.base / 64 → lines ≡ map (line_in program.bytes) (range_with_len 0 count) →
     caches ≡ replicate harts (empty_cached ways sets) → AreCoherent (bytes_at_first program) first lines caches
 first_coherent program first count harts ways sets lines caches first_is lines_are caches_are =
     rw (lines_are, caches_are)
@@ -61,5 +63,6 @@ first_coherent program first count harts ways sets lines caches first_is lines_a
           not_both resident (nobody harts ways sets h line);
     })
   where
-    below : (line : ℕ) → first ≤ line → line < first + length (map (line_in program.bytes) (range_with_len 0 count)) → line - first < count
+    below : (line : ℕ) → first ≤ line → line < first + length (map (line_in program.bytes) (range_with_len 0 count)) →
+        line - first < count
     below line from under = omega (arith, from, under, length-map-range_with_len (line_in program.bytes) 0 count)

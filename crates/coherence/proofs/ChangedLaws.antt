@@ -7,9 +7,11 @@ use Rattle.coherence.specs.Changed.{IsChangedAt, IsReplacedAt}
 use Rattle.coherence.proofs.FetchLaws.{other_new}
 use Rattle.coherence.proofs.KeptLaws.{coherent_same_copies}
 
-pub changed_at : (Becomes : Cached → Cached → Type 0) (h first : ℕ) (lines : List (List ℕ)) (old new : List Cached) → h < length old →
-    (replaced : IsReplacedAt Becomes h old new) → ((l : ℕ) → copy_in replaced.cache l ≡ copy_in (cache_at old h) l) →
-    IsChangedAt Becomes h (record { first = first; lines = lines; caches = old }) (record { first = first; lines = lines; caches = new })
+pub changed_at : (Becomes : Cached → Cached → Type 0) (h first : ℕ) (lines : List (List ℕ)) (old new : List Cached) →
+    h < length old → (replaced : IsReplacedAt Becomes h old new) →
+    ((l : ℕ) → copy_in replaced.cache l ≡ copy_in (cache_at old h) l) →
+    IsChangedAt Becomes h (record { first = first; lines = lines; caches = old })
+    (record { first = first; lines = lines; caches = new })
 changed_at Becomes h first lines old new inside replaced copies =
     rw replaced.new_is
     (record {

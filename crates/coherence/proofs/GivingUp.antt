@@ -1,5 +1,6 @@
 -- one hart after another gives a line up, in the pool that lends the caches
-use Rattle.std.proofs.Common.{◌≡◌, ◌≢◌, ◌∙◌, ◌<◌, ◌+◌, ◌&&◌, ◌||◌, ◌==◌, not, arith, Bool, true, false, ℕ, suc, List, drop, length, refl, ap, sym, subst}
+use Rattle.std.proofs.Common.{◌≡◌, ◌≢◌, ◌∙◌, ◌<◌, ◌+◌, ◌&&◌, ◌||◌, ◌==◌, not, arith, Bool, true, false, ℕ, suc, List}
+use Rattle.std.proofs.Common.{drop, length, refl, ap, sym, subst}
 use Rattle.std.specs.Prelude.{slice_set}
 use Rattle.residency.specs.Cache.{is_resident}
 use Rattle.cache_sets.specs.Cached.{Cached}
@@ -7,7 +8,8 @@ use Rattle.cache_sets.specs.Slotted.{IsLent, Slotted, lent}
 use Rattle.coherence.specs.Caches.{GivesUp, OthersGiveUp, others_from}
 use Rattle.coherence.specs.Lent.{IsLentTo, LeavesHolds, lent_all, slotted_at}
 use Rattle.coherence.proofs.Laws.GivenUp.{GivenUpBelow, all_given_up, none_yet, one_before, one_more, passed_over}
-use Rattle.coherence.proofs.Laws.Offered.{caches_set, holds_set, leaves_holds-same, leaves_holds-then, length-lent, lent_at, lent_set}
+use Rattle.coherence.proofs.Laws.Offered.{caches_set, holds_set, leaves_holds-same, leaves_holds-then, length-lent}
+use Rattle.coherence.proofs.Laws.Offered.{lent_at, lent_set}
 use Rattle.el_base.specs.declared.outcomes.Need.{Need}
 use Rattle.line_pool.specs.Others.{LeavesOthers}
 use Rattle.line_pool.specs.Pooled.{Pooled}
@@ -42,19 +44,25 @@ module _ (need : Need) (h line number : ℕ) (first now : Pooled) (old new : Lis
   }
 
   -- another one gives it up
-  pub gave_one : (after : Pooled) (before cache : Slotted) → number ≢ h → number < length new → before ≡ slotted_at new number
-      → GivesUp need (lent now before) (lent after cache) line → IsLent after cache → LeavesOthers before.owner now after
+  pub gave_one : (after : Pooled) (before cache : Slotted) → number ≢ h → number < length new →
+      before ≡ slotted_at new number
+      → GivesUp need (lent now before) (lent after cache) line → IsLent after cache →
+      LeavesOthers before.owner now after
       → cache.owner ≡ before.owner → GivenUpSoFar need h line (number + 1) first after old (slice_set new number cache)
   gave_one after before cache other inside was gives kept leaves same = record {
     below =
         subst (GivenUpBelow need h line (number + 1) (lent_all first old))
         (sym (caches_set now after new number before cache so_far.owed inside was leaves))
-        (subst (λ n. GivenUpBelow need h line n (lent_all first old) (slice_set (lent_all now new) number (lent after cache))) (one_on number)
+        (subst (λ n. GivenUpBelow need h line n (lent_all first old)
+        (slice_set (lent_all now new) number (lent after cache))) (one_on number)
         (one_more need h line number (lent_all first old) (lent_all now new) (lent after cache) other
         (subst (λ n. number < n) (sym (length-lent now new)) inside)
-        (subst (λ c. GivesUp need c (lent after cache) line) (ap (lent now) was ∙ sym (lent_at now new number)) gives) so_far.below));
+        (subst (λ c. GivesUp need c (lent after cache) line) (ap (lent now) was ∙ sym (lent_at now new number)) gives)
+        so_far.below));
     owed = lent_set now after new number before cache so_far.owed inside was leaves same kept;
-    holds = leaves_holds-then first now after so_far.holds (holds_set now after new number before cache so_far.owed inside was leaves);
+    holds =
+        leaves_holds-then first now after so_far.holds
+        (holds_set now after new number before cache so_far.owed inside was leaves);
   }
 
   -- no hart has come or gone
@@ -63,7 +71,9 @@ module _ (need : Need) (h line number : ℕ) (first now : Pooled) (old new : Lis
       subst (λ n. number < n) (is ∙ sym (length-lent first old) ∙ sym so_far.below.count ∙ length-lent now new) below
 
   pub all_gave : number ≡ length old → OthersGiveUp need h line (lent_all first old) (lent_all now new)
-  all_gave all = all_given_up need h line number (lent_all first old) (lent_all now new) (all ∙ sym (length-lent first old)) so_far.below
+  all_gave all =
+      all_given_up need h line number (lent_all first old) (lent_all now new)
+      (all ∙ sym (length-lent first old)) so_far.below
 
 -- a hart is there still, and its cache is the one that it was
 pub still_there : (need : Need) (h line : ℕ) (first now : Pooled) (old new : List Slotted)
@@ -80,7 +90,8 @@ or_none : (here some : Bool) → here ≡ false → some ≡ (here || some)
 or_none true some is = absurd cc
 or_none false some is = refl
 
-module _ (caches : List Slotted) (from number h line : ℕ) (cache : Slotted) (some here : Bool) (next : from ≡ suc number)
+module _ (caches : List Slotted) (from number h line : ℕ) (cache : Slotted) (some here : Bool)
+    (next : from ≡ suc number)
     (inside : number < length caches) (found : cache ≡ slotted_at caches number)
     (later : (pool : Pooled) → some ≡ others_from from (drop from (lent_all pool caches)) h line)
     (is : here ≡ (not (number == h) && is_resident cache.residency line)) where
@@ -92,8 +103,10 @@ module _ (caches : List Slotted) (from number h line : ℕ) (cache : Slotted) (s
       ∙ ap (λ (c : Slotted). not (number == h) && is_resident c.residency line) found
       ∙ ap (λ (c : Cached). not (number == h) && is_resident c.residency line) (sym (lent_at pool caches number)))
 
-  pub before_there : here ≡ true → (pool : Pooled) → here ≡ others_from number (drop number (lent_all pool caches)) h line
+  pub before_there : here ≡ true → (pool : Pooled) →
+      here ≡ others_from number (drop number (lent_all pool caches)) h line
   before_there have pool = or_some here some have ∙ one_before-lent pool
 
-  pub before_absent : here ≡ false → (pool : Pooled) → some ≡ others_from number (drop number (lent_all pool caches)) h line
+  pub before_absent : here ≡ false → (pool : Pooled) →
+      some ≡ others_from number (drop number (lent_all pool caches)) h line
   before_absent lack pool = or_none here some lack ∙ one_before-lent pool

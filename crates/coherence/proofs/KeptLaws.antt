@@ -1,5 +1,6 @@
 -- a hart keeps its copy: caches and main memory tell what they told
-use Rattle.std.proofs.Common.{◌≡◌, ◌≢◌, ◌∙◌, ◌⊎◌, ◌<◌, ◌≤◌, ℕ, true, List, length, Some, option_map, ap, refl, sym, subst, inl, inr}
+use Rattle.std.proofs.Common.{◌≡◌, ◌≢◌, ◌∙◌, ◌⊎◌, ◌<◌, ◌≤◌, ℕ, true, List, length, Some, option_map, ap, refl, sym}
+use Rattle.std.proofs.Common.{subst, inl, inr}
 use Rattle.std.specs.Prelude.{slice_set}
 use Rattle.std.proofs.lemmas.Bool.{cases_eq, cases_lt}
 use Rattle.std.proofs.lemmas.List.{get_or-set_same, length-set}
@@ -24,20 +25,23 @@ use Rattle.moesi.specs.declared.letter.Letter.{Letter}
 use Rattle.moesi.specs.declared.letter.Letter.TheVariants.{M}
 
 -- the copy keeps its letter, or is modified as the only one
-pub letter_kept : (h line : ℕ) (letter : Letter) (old new : List Slotted) → letter ≡ letter_of (slotted_at old h).residency line →
+pub letter_kept : (h line : ℕ) (letter : Letter) (old new : List Slotted) →
+    letter ≡ letter_of (slotted_at old h).residency line →
     IsReplacedIn (λ before after. IsLettered before after line letter) h old new →
     IsReplacedIn (λ before after. IsLettered before after line (letter_of before.residency line)) h old new
 letter_kept h line letter old new is replaced = record {
   cache = replaced.cache;
   becomes = λ pool.
-      subst (λ l. IsLettered (lent pool (slotted_at old h)) (lent pool replaced.cache) line l) is (replaced.becomes pool);
+      subst (λ l. IsLettered (lent pool (slotted_at old h)) (lent pool replaced.cache) line l) is
+      (replaced.becomes pool);
   kept = replaced.kept;
   owner = replaced.owner;
   new_is = replaced.new_is;
 }
 
 pub kept_letter_same : (h line : ℕ) (old new : List Cached) → h < length old →
-    IsReplacedAt (λ before after. IsLettered before after line (letter_of before.residency line)) h old new → IsKept Read h line old new
+    IsReplacedAt (λ before after. IsLettered before after line (letter_of before.residency line)) h old new →
+    IsKept Read h line old new
 kept_letter_same h line old new inside replaced =
     rw replaced.new_is
     (record {
@@ -61,13 +65,15 @@ modified h line old mid new gave inside replaced =
     })
 
 -- where the copies of other lines are as they were, only the line itself is to be looked at
-pub one_line : (told : ℕ → List ℕ) (first line : ℕ) (lines : List (List ℕ)) (old new : List Cached) → AreCoherent told first lines old →
-    ((l g : ℕ) → l ≢ line → copies_of new l g ≡ copies_of old l g) → IsInMemory first (length lines) line →
-    Coherent (told line) (copies_of new line) (behind_of first lines line) → AreCoherent told first lines new
+pub one_line : (told : ℕ → List ℕ) (first line : ℕ) (lines : List (List ℕ)) (old new : List Cached) →
+    AreCoherent told first lines old → ((l g : ℕ) → l ≢ line → copies_of new l g ≡ copies_of old l g) →
+    IsInMemory first (length lines) line → Coherent (told line) (copies_of new line) (behind_of first lines line) →
+    AreCoherent told first lines new
 one_line told first line lines old new coherent same there here = record {
   each = λ l in_memory. elim (cases_eq l line) [
     | inl is ↦ subst (λ k. Coherent (told k) (copies_of new k) (behind_of first lines k)) (sym is) here
-    | inr other ↦ same_line (told l) (copies_of old l) (copies_of new l) _ _ (coherent.each l in_memory) (λ g. same l g other) refl
+    | inr other ↦ same_line (told l) (copies_of old l) (copies_of new l) _ _ (coherent.each l in_memory)
+        (λ g. same l g other) refl
   ];
   inside = λ g l resident. elim (cases_eq l line) [
     | inl is ↦ subst (IsInMemory first (length lines)) (sym is) there
@@ -93,7 +99,10 @@ kept_other need h line l g old new kept other =
 pub own_kept : (need : Need) (h line : ℕ) (old new : List Cached) → IsKept need h line old new →
     is_resident (cache_at old h).residency line ≡ true →
     copies_of new line h
-    ≡ Some (record { letter = kept_letter need (letter_of (cache_at old h).residency line); bytes = bytes_of (cache_at old h) line })
+    ≡ Some (record {
+      letter = kept_letter need (letter_of (cache_at old h).residency line);
+      bytes = bytes_of (cache_at old h) line;
+    })
 own_kept need h line old new kept resident =
     kept.own.here
     ∙ ap (λ copy. option_map (copy_with_letter (kept_letter need (letter_of (cache_at old h).residency line))) copy)
@@ -115,17 +124,17 @@ line_kept Write h line told behind old new kept resident coherent =
     (coherent.same h _ (copy_is (cache_at old h) line resident))
     (λ g apart. (kept.others g apart).here)
 
-pub coherent_kept : (need : Need) (h line first : ℕ) (lines : List (List ℕ)) (told : ℕ → List ℕ) (old new : List Cached) →
-    IsKept need h line old new → is_resident (cache_at old h).residency line ≡ true → AreCoherent told first lines old →
-    AreCoherent told first lines new
+pub coherent_kept : (need : Need) (h line first : ℕ) (lines : List (List ℕ)) (told : ℕ → List ℕ)
+    (old new : List Cached) → IsKept need h line old new → is_resident (cache_at old h).residency line ≡ true →
+    AreCoherent told first lines old → AreCoherent told first lines new
 coherent_kept need h line first lines told old new kept resident coherent =
     let there = coherent.inside h line resident in
     one_line told first line lines old new coherent (λ l g other. kept_other need h line l g old new kept other) there
     (line_kept need h line (told line) (behind_of first lines line) old new kept resident (coherent.each line there))
 
 -- where one cache is replaced by one with the same copy of a line, the copies of that line are as they were
-pub same_copies_at : (h line g : ℕ) (old : List Cached) (cache : Cached) → copy_in cache line ≡ copy_in (cache_at old h) line →
-    copies_of (slice_set old h cache) line g ≡ copies_of old line g
+pub same_copies_at : (h line g : ℕ) (old : List Cached) (cache : Cached) →
+    copy_in cache line ≡ copy_in (cache_at old h) line → copies_of (slice_set old h cache) line g ≡ copies_of old line g
 same_copies_at h line g old cache same =
     elim (cases_eq g h) [
       | inl own ↦ rw own (here (cases_lt h (length old)))
@@ -136,11 +145,12 @@ same_copies_at h line g old cache same =
     here (inl inside) = ap (λ c. copy_in c line) (get_or-set_same old h cache no_cache inside) ∙ same
     here (inr outside) =
         ap (λ c. copy_in c line)
-        (beyond (slice_set old h cache) h (subst (λ n. n ≤ h) (sym (length-set old h cache)) outside) ∙ sym (beyond old h outside))
+        (beyond (slice_set old h cache) h (subst (λ n. n ≤ h) (sym (length-set old h cache)) outside)
+        ∙ sym (beyond old h outside))
 
 -- where it has the same copies of all lines, caches and main memory tell what they told
-pub coherent_same_copies : (h first : ℕ) (lines : List (List ℕ)) (told : ℕ → List ℕ) (old : List Cached) (cache : Cached) →
-    ((l : ℕ) → copy_in cache l ≡ copy_in (cache_at old h) l) → AreCoherent told first lines old →
+pub coherent_same_copies : (h first : ℕ) (lines : List (List ℕ)) (told : ℕ → List ℕ) (old : List Cached)
+    (cache : Cached) → ((l : ℕ) → copy_in cache l ≡ copy_in (cache_at old h) l) → AreCoherent told first lines old →
     AreCoherent told first lines (slice_set old h cache)
 coherent_same_copies h first lines told old cache copies coherent = record {
   each = λ l in_memory.

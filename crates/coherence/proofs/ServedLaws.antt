@@ -26,8 +26,8 @@ others_absent : (had : Bool) (need : Need) (cache : List (List Way)) (line : ℕ
 others_absent had Write cache line is = refl
 others_absent had Read cache line is = chosen_else had cache (given_up Read cache line) is
 
-pub moved_by_fetch : (need : Need) (h line : ℕ) (old new : Copies) → is_resident (cache_at old.caches h).residency line ≡ false →
-    IsFetched need h line old new → HasMoved need h line old new
+pub moved_by_fetch : (need : Need) (h line : ℕ) (old new : Copies) → is_resident (cache_at old.caches h).residency line
+    ≡ false → IsFetched need h line old new → HasMoved need h line old new
 moved_by_fetch need h line old new absent fetched =
     let cached = cache_at old.caches h in
     let had = is_resident cached.residency line in
@@ -36,7 +36,9 @@ moved_by_fetch need h line old new absent fetched =
       here = fetched.here;
       ways = fetched.ways;
       own = fetched.own ∙ sym (chosen_else had _ _ absent);
-      others = λ g other. fetched.others g other ∙ sym (others_absent had need (cache_at old.caches g).residency line absent);
+      others =
+          λ g other. fetched.others g other
+          ∙ sym (others_absent had need (cache_at old.caches g).residency line absent);
       memory = fetched.memory;
     }
 
@@ -51,7 +53,8 @@ leaves_residency Read had old new line is same =
 leaves_residency Write had old new line is without = without.residency
 
 -- main memory is as it was, since no line leaves
-none_left : (h line first : ℕ) (lines : List (List ℕ)) (old : List Cached) → is_resident (cache_at old h).residency line ≡ true →
+none_left : (h line first : ℕ) (lines : List (List ℕ)) (old : List Cached) →
+    is_resident (cache_at old h).residency line ≡ true →
     lines ≡ lines_after h line (record { first = first; lines = lines; caches = old })
 unfolding lines_after
 none_left h line first lines old resident =
@@ -60,7 +63,8 @@ none_left h line first lines old resident =
 
 pub moved_by_keeping : (need : Need) (h line first : ℕ) (lines : List (List ℕ)) (old new : List Cached) →
     is_resident (cache_at old h).residency line ≡ true → IsKept need h line old new →
-    HasMoved need h line (record { first = first; lines = lines; caches = old }) (record { first = first; lines = lines; caches = new })
+    HasMoved need h line (record { first = first; lines = lines; caches = old })
+    (record { first = first; lines = lines; caches = new })
 moved_by_keeping need h line first lines old new resident kept =
     let had = is_resident (cache_at old h).residency line in
     record {
@@ -76,13 +80,16 @@ moved_by_keeping need h line first lines old new resident kept =
         | inr other ↦ leaves_ways need (cache_at old g) (cache_at new g) line (kept.others g other)
       ];
       own = kept.own.residency ∙ sym (chosen_then had _ _ resident);
-      others = λ g other. leaves_residency need had (cache_at old g) (cache_at new g) line resident (kept.others g other);
+      others =
+          λ g other. leaves_residency need had (cache_at old g) (cache_at new g) line resident (kept.others g other);
       memory = none_left h line first lines old resident;
     }
 
-pub served_by_touch : (need : Need) (h line place : ℕ) (old mid : Copies) (before cache : Cached) → place ≡ h → h < length mid.caches →
-    HasMoved need h line old mid → before ≡ cache_at mid.caches h → IsTouched before cache line →
-    IsServed need h line old (record { first = mid.first; lines = mid.lines; caches = slice_set mid.caches place cache })
+pub served_by_touch : (need : Need) (h line place : ℕ) (old mid : Copies) (before cache : Cached) → place ≡ h →
+    h < length mid.caches → HasMoved need h line old mid → before ≡ cache_at mid.caches h →
+    IsTouched before cache line →
+    IsServed need h line old
+    (record { first = mid.first; lines = mid.lines; caches = slice_set mid.caches place cache })
 served_by_touch need h line place old mid before cache same inside moved was touch_before =
     let touch : IsTouched (cache_at mid.caches h) cache line = subst (λ c. IsTouched c cache line) was touch_before in
     rw same
@@ -92,7 +99,8 @@ served_by_touch need h line place old mid before cache same inside moved was tou
         lines = moved.stays.lines;
         caches = length-set mid.caches h cache ∙ moved.stays.caches;
         coherent = λ told coherent.
-            coherent_same_copies h mid.first mid.lines told mid.caches cache touch.copies (moved.stays.coherent told coherent);
+            coherent_same_copies h mid.first mid.lines told mid.caches cache touch.copies
+            (moved.stays.coherent told coherent);
       };
       here =
           copy_resident (cache_at (slice_set mid.caches h cache) h) line _

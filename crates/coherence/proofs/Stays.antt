@@ -11,4 +11,5 @@ use Rattle.moesi.specs.Letters.{on_read_of}
 pub nothing_given_up : (need : Need) (cached : Cached) (line : ℕ) → is_resident cached.residency line ≡ false →
     GivesUp need cached cached line
 nothing_given_up Write cached line absent = stays_without cached line absent
-nothing_given_up Read cached line absent = stays_lettered cached line (on_read_of (letter_of cached.residency line)) absent
+nothing_given_up Read cached line absent =
+    stays_lettered cached line (on_read_of (letter_of cached.residency line)) absent

@@ -1,5 +1,6 @@
 -- the caches of all harts, and main memory line by line
-use Rattle.std.specs.Prelude.{ℕ, suc, ◌≡◌, ◌≢◌, ◌<◌, ◌≤◌, ◌+◌, ◌-◌, Bool, true, false, ◌==◌, not, ◌&&◌, ◌||◌, List, [], ◌∷◌, length, Option, slice_index_or}
+use Rattle.std.specs.Prelude.{ℕ, suc, ◌≡◌, ◌≢◌, ◌<◌, ◌≤◌, ◌+◌, ◌-◌, Bool, true, false, ◌==◌, not, ◌&&◌, ◌||◌, List, []}
+use Rattle.std.specs.Prelude.{◌∷◌, length, Option, slice_index_or}
 use Rattle.residency.specs.Cache.{is_resident, letter_of}
 use Rattle.cache_sets.specs.Cached.{Cached, Copy, copy_in}
 use Rattle.cache_sets.specs.Calls.{IsLettered, IsWithout}
@@ -30,8 +31,10 @@ pub record IsInMemory (first count line : ℕ) : Type 0 where
 
 -- caches and main memory tell one thing of each line, and no cache has a line that is not in memory
 pub record AreCoherent (bytes : ℕ → List ℕ) (first : ℕ) (lines : List (List ℕ)) (caches : List Cached) : Type 0 where
-  pub each : (line : ℕ) → IsInMemory first (length lines) line → Coherent (bytes line) (copies_of caches line) (behind_of first lines line)
-  pub inside : (h line : ℕ) → is_resident (cache_at caches h).residency line ≡ true → IsInMemory first (length lines) line
+  pub each : (line : ℕ) → IsInMemory first (length lines) line →
+      Coherent (bytes line) (copies_of caches line) (behind_of first lines line)
+  pub inside : (h line : ℕ) → is_resident (cache_at caches h).residency line ≡ true →
+      IsInMemory first (length lines) line
 
 -- whether a hart other than this one has a copy of a line, among the harts from a number on
 abbrev pub others_from : ℕ → List Cached → ℕ → ℕ → Bool

@@ -1,5 +1,6 @@
 -- what a caller gives back of a cache that was lent to it, and what caches and main memory tell then
-use Rattle.std.specs.Prelude.{ℕ, ◌≡◌, ◌≢◌, ◌==◌, Bool, true, false, List, Option, Some, option_map, if◌then◌else◌, slice_set}
+use Rattle.std.specs.Prelude.{ℕ, ◌≡◌, ◌≢◌, ◌==◌, Bool, true, false, List, Option, Some, option_map, if◌then◌else◌}
+use Rattle.std.specs.Prelude.{slice_set}
 use Rattle.std.specs.Option.{option_map_or}
 use Rattle.residency.specs.Cache.{letter_of, write_bit}
 use Rattle.cache_sets.specs.Cached.{Cached, Copy, copy_in, copy_with_bytes}
@@ -11,7 +12,8 @@ use Rattle.moesi.specs.declared.letter.Letter.TheVariants.{M}
 -- a copy that was lent: it is as it was, or it was one that may be written, and is modified now
 pub data IsCopyBack (before after : Option Copy) : Type 0 where
   Kept : after ≡ before → IsCopyBack before after
-  Stored : (was is : Copy) → before ≡ Some was → may_write was.letter ≡ true → after ≡ Some is → is.letter ≡ M → IsCopyBack before after
+  Stored : (was is : Copy) → before ≡ Some was → may_write was.letter ≡ true → after ≡ Some is → is.letter ≡ M →
+      IsCopyBack before after
 
 -- each copy of a cache is so; the order of its lines and their bits may be any
 pub record IsGivenBack (old new : Cached) : Type 0 where
@@ -43,7 +45,8 @@ pub record IsStoredIn (old new : Cached) (line : ℕ) (bytes : List ℕ) : Type 
 -- the lines with the write bit, whose copies may be written, got these bytes; each other copy is as it was
 pub record WroteLines (old new : Cached) (bytes : ℕ → List ℕ) : Type 0 where
   pub may : (l : ℕ) → write_bit new.residency l ≡ true → may_write (letter_of old.residency l) ≡ true
-  pub written : (l : ℕ) → write_bit new.residency l ≡ true → copy_in new l ≡ option_map (copy_with_bytes (bytes l)) (copy_in old l)
+  pub written : (l : ℕ) → write_bit new.residency l ≡ true →
+      copy_in new l ≡ option_map (copy_with_bytes (bytes l)) (copy_in old l)
   pub others : (l : ℕ) → write_bit new.residency l ≡ false → copy_in new l ≡ copy_in old l
 
 -- the bytes of each line, with other ones for some lines

@@ -15,5 +15,6 @@ LeavesTo Write old new line = IsWithout old new line
 
 pub record IsKept (need : Need) (h line : ℕ) (old new : List Cached) : Type 0 where
   pub count : length new ≡ length old
-  pub own : IsLettered (cache_at old h) (cache_at new h) line (kept_letter need (letter_of (cache_at old h).residency line))
+  pub own : IsLettered (cache_at old h) (cache_at new h) line
+      (kept_letter need (letter_of (cache_at old h).residency line))
   pub others : (g : ℕ) → g ≢ h → LeavesTo need (cache_at old g) (cache_at new g) line

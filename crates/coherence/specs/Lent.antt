@@ -1,4 +1,5 @@
--- the caches of all harts, whose lines have their bytes in slots of one pool: what the pool owes them, and what it keeps for others
+-- the caches of all harts, whose lines have their bytes in slots of one pool: what the pool owes
+-- them, and what it keeps for others
 use Rattle.std.specs.Prelude.{ℕ, ◌≡◌, ◌≤◌, ◌<◌, true, List, [], length, map, slice_index_or, slice_set}
 use Rattle.cache_sets.specs.Cached.{Cached}
 use Rattle.cache_sets.specs.Slotted.{IsLent, Slotted, lent}

@@ -8,7 +8,8 @@ pub record Coherent (bytes : List ℕ) (copies : ℕ → Option Copy) (behind : 
   -- each copy has them
   pub same : (h : ℕ) (copy : Copy) → copies h ≡ Some copy → copy.bytes ≡ bytes
   -- a copy that may be written is the only one
-  pub alone : (g h : ℕ) (one other : Copy) → copies g ≡ Some one → copies h ≡ Some other → may_write one.letter ≡ true → g ≡ h
+  pub alone : (g h : ℕ) (one other : Copy) → copies g ≡ Some one → copies h ≡ Some other →
+      may_write one.letter ≡ true → g ≡ h
   -- at most one is a copy that main memory may be behind
   pub owner : (g h : ℕ) (one other : Copy) → copies g ≡ Some one → copies h ≡ Some other → is_dirty one.letter ≡ true →
       is_dirty other.letter ≡ true → g ≡ h

@@ -1,5 +1,6 @@
 -- what a served request makes of the caches and of main memory
-use Rattle.std.specs.Prelude.{ℕ, ◌≡◌, ◌≢◌, ◌-◌, Bool, true, List, length, Option, None, Some, option_map, if◌then◌else◌, slice_set}
+use Rattle.std.specs.Prelude.{ℕ, ◌≡◌, ◌≢◌, ◌-◌, Bool, true, List, length, Option, None, Some, option_map, if◌then◌else◌}
+use Rattle.std.specs.Prelude.{slice_set}
 use Rattle.residency.specs.Cache.{evicted_by, filled_with, is_resident, room_of, touched}
 use Rattle.cache_sets.specs.Cached.{Cached, Copy, copy_in}
 use Rattle.residency.specs.Residency.{Way}
@@ -25,10 +26,12 @@ victim_of cached line =
     if is_resident cached.residency line then None
     else option_map (λ way. way.line) (evicted_by cached.ways cached.residency line)
 
--- main memory after a copy of a line left a cache, if it had one: the line has its bytes where main memory may be behind it
+-- main memory after a copy of a line left a cache, if it had one: the line has its bytes
+-- where main memory may be behind it
 abbrev pub with_copy_back : ℕ → List (List ℕ) → ℕ → Option Copy → List (List ℕ)
 with_copy_back first lines line None = lines
-with_copy_back first lines line (Some copy) = if is_dirty copy.letter then slice_set lines (line - first) copy.bytes else lines
+with_copy_back first lines line (Some copy) =
+    if is_dirty copy.letter then slice_set lines (line - first) copy.bytes else lines
 
 -- main memory after a line left this cache, if one did
 abbrev pub with_line_back : Cached → ℕ → List (List ℕ) → Option ℕ → List (List ℕ)
@@ -41,8 +44,8 @@ pub record Copies : Type 0 where
   pub lines : List (List ℕ)
   pub caches : List Cached
 
--- main memory after a hart's request for a line was served: the line that left the hart's cache for it, if one did, is written back
--- where its copy was modified or owned; each other line is as it was
+-- main memory after a hart's request for a line was served: the line that left the hart's cache for it, if one did, is
+-- written back where its copy was modified or owned; each other line is as it was
 unfoldable pub lines_after : ℕ → ℕ → Copies → List (List ℕ)
 lines_after h line old =
     with_line_back (cache_at old.caches h) old.first old.lines (victim_of (cache_at old.caches h) line)
@@ -64,18 +67,21 @@ pub record IsFetched (need : Need) (h line : ℕ) (old new : Copies) : Type 0 wh
       (cache_at new.caches h).residency
       ≡ filled_with (cache_at old.caches h).ways (cache_at old.caches h).residency line
       (filled_of need (others_have old.caches h line))
-  pub others : (g : ℕ) → g ≢ h → (cache_at new.caches g).residency ≡ given_up need (cache_at old.caches g).residency line
+  pub others : (g : ℕ) → g ≢ h →
+      (cache_at new.caches g).residency ≡ given_up need (cache_at old.caches g).residency line
   pub memory : new.lines ≡ lines_after h line old
 
--- a request was served, and this has become of the order of the hart's lines: its copy has the letter that its need gives, and the other
--- harts have given up what the definition says
-pub record Moves (ordering : List (List Way) → List (List Way)) (need : Need) (h line : ℕ) (old new : Copies) : Type 0 where
+-- a request was served, and this has become of the order of the hart's lines: its copy has the letter that its need
+-- gives, and the other harts have given up what the definition says
+pub record Moves (ordering : List (List Way) → List (List Way)) (need : Need) (h line : ℕ)
+    (old new : Copies) : Type 0 where
   pub stays : StaysCoherent old new
   pub here : is_resident (cache_at new.caches h).residency line ≡ true
   pub ways : (g : ℕ) → (cache_at new.caches g).ways ≡ (cache_at old.caches g).ways
   pub own :
       (cache_at new.caches h).residency
-      ≡ ordering (own_copy (cache_at old.caches h).ways (others_have old.caches h line) need (cache_at old.caches h).residency line)
+      ≡ ordering (own_copy (cache_at old.caches h).ways (others_have old.caches h line) need
+      (cache_at old.caches h).residency line)
   pub others : (g : ℕ) → g ≢ h →
       (cache_at new.caches g).residency
       ≡ others_cache (is_resident (cache_at old.caches h).residency line) need (cache_at old.caches g).residency line
@@ -96,7 +102,8 @@ pub record IsCoherent (copies : Copies) : Type 0 where
 
 -- main memory and caches as contracts see them: the caches with the bytes that a pool has for them
 abbrev pub shown_copies : Pooled → hierarchies.Hierarchy → Copies
-shown_copies pool hierarchy = record { first = hierarchy.first; lines = hierarchy.lines.items; caches = lent_all pool hierarchy.caches.items }
+shown_copies pool hierarchy =
+    record { first = hierarchy.first; lines = hierarchy.lines.items; caches = lent_all pool hierarchy.caches.items }
 
 -- the caches where the pool is not at hand
 abbrev pub caches_of : hierarchies.Hierarchy → List Slotted

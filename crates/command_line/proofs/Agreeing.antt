@@ -1,5 +1,6 @@
 -- what `clap` answers at the words of a form, in the words of the form
-use Rattle.std.proofs.Common.{◌≡◌, ◌∙◌, ◌<◌, true, List, [], ◌∷◌, length, Option, None, Some, String, Result, Ok, Err, IsErrAnd, inl, inr, refl, ap, sym, subst}
+use Rattle.std.proofs.Common.{◌≡◌, ◌∙◌, ◌<◌, true, List, [], ◌∷◌, length, Option, None, Some, String, Result, Ok, Err}
+use Rattle.std.proofs.Common.{IsErrAnd, inl, inr, refl, ap, sym, subst}
 use Rattle.std.specs.Global.{Global}
 use Rattle.std.proofs.lemmas.Str.{IsUtf8-string_bytes}
 use Rattle.clap.specs.Faults.{fault_of, is_simple_and_free}
@@ -35,7 +36,8 @@ pub not_memory : {T : Type 0} (result : Result T WordsFault) (error : Error)
 not_memory (Ok given) error from usage memory = absurd from
 not_memory (Err fault) error from usage memory = let is : fault ≡ fault_by OutOfMemory = from ∙ ap fault_by memory in cc
 
-module _ (form : Form) (words : List Text) (few : length form.positionals < usize_max) (are : AreTexts words) (app : App) (is : app ≡ app_by form) where
+module _ (form : Form) (words : List Text) (few : length form.positionals < usize_max) (are : AreTexts words)
+    (app : App) (is : app ≡ app_by form) where
   simple : is_simple app ≡ true
   simple = subst (λ (a : App). is_simple a ≡ true) (sym is) (both (is_simple (app_by form)) _ (is_simple_form form)).0
 
@@ -48,7 +50,8 @@ module _ (form : Form) (words : List Text) (few : length form.positionals < usiz
       (taken form words few are)
 
   -- a parse that succeeds
-  pub has_fields : (matches : ArgMatches) → HasMatchesOf app words matches → (is_simple_and_free app ≡ true → fault_of app words ≡ [])
+  pub has_fields : (matches : ArgMatches) → HasMatchesOf app words matches →
+      (is_simple_and_free app ≡ true → fault_of app words ≡ [])
       → HasFields form words (record { matches = matches })
   has_fields matches exact passes = go (fields_of form words) refl agree
     where
@@ -68,7 +71,8 @@ module _ (form : Form) (words : List Text) (few : length form.positionals < usiz
       }
 
   -- a parse that fails, and not for lack of memory
-  pub no_fields : (error : Error) → (is_simple_and_free app ≡ true → HasKind (fault_of app words) error) → (kind_of error ≡ OutOfMemory → ⊥)
+  pub no_fields : (error : Error) → (is_simple_and_free app ≡ true → HasKind (fault_of app words) error) →
+      (kind_of error ≡ OutOfMemory → ⊥)
       → fields_of form words ≡ None
   no_fields error fails other = go (fields_of form words) refl agree
     where

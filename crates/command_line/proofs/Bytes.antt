@@ -21,7 +21,8 @@ no_byte : (n : ℕ) → ltb n 256 ≡ false → (bytes : List ℕ) → list_all 
     list_any (λ byte. eqb byte n) bytes ≡ false
 no_byte n large [] small = refl
 no_byte n large (byte ∷ bytes) small =
-    ap₂ (λ a b. a || b) (differs byte (both (ltb byte 256) _ small).0) (no_byte n large bytes (both (ltb byte 256) _ small).1)
+    ap₂ (λ a b. a || b) (differs byte (both (ltb byte 256) _ small).0)
+    (no_byte n large bytes (both (ltb byte 256) _ small).1)
   where
     both : (a b : Bool) → (a && b) ≡ true → (a ≡ true) × (b ≡ true)
     both true b e = (refl, e)
@@ -48,6 +49,10 @@ with_bytes config = record config {
 
 pub same_fault : (config : Config) → config_fault (with_bytes config) ≡ config_fault config
 same_fault config =
-    rw
-    (within_byte 8 config.harts (omega arith), counts config.sets, within_byte 8 config.ways (omega arith), within_byte 32 config.lines (omega arith))
+    rw (
+      within_byte 8 config.harts (omega arith),
+      counts config.sets,
+      within_byte 8 config.ways (omega arith),
+      within_byte 32 config.lines (omega arith),
+    )
     refl

@@ -64,7 +64,8 @@ module _ (form : Form) (fields : List Field) where
   settled_agrees false e = rw (append-nil fields, e) (λ none. let kinds = sym (settled_kinds false e) ∙ none in cc)
 
 -- no word is left, and no option wants a value
-pub ends : (form : Form) (done : List Field) (last : Option Field) (place : ℕ) (trailing : Bool) → IsKnownLast (built_rules form) last
+pub ends : (form : Form) (done : List Field) (last : Option Field) (place : ℕ) (trailing : Bool) →
+    IsKnownLast (built_rules form) last
     → Continues form (at (holds done last) clap.idle place trailing) [] done last (Some [])
 ends form done last place trailing known = by_settling form walk [] done last (Some []) known fails goes
   where
@@ -72,7 +73,9 @@ ends form done last place trailing known = by_settling form walk [] done last (S
     walk = at (holds done last) clap.idle place trailing
 
     fails : Repeats (built_rules form) done last → Gives form (at (holds done last) clap.idle place trailing) [] None
-    fails repeats = subst Fails (sym (kinds_at_end form (at (holds done last) clap.idle place trailing))) (first_fails _ _ repeats.fails)
+    fails repeats =
+        subst Fails (sym (kinds_at_end form (at (holds done last) clap.idle place trailing)))
+        (first_fails _ _ repeats.fails)
 
     goes : Settles (built_rules form) done last
         → Continues form (at (holds done last) clap.idle place trailing) [] (with_last done last) None (Some [])
@@ -83,7 +86,8 @@ ends form done last place trailing known = by_settling form walk [] done last (S
         let kinds : end_kinds form (holds done last) ≡ last_kinds form (rows_of_fields fields) (all_rows form fields) =
         ap (λ first. or_else first (last_kinds form (clap.settled (built_rules form) (holds done last)).rows
         (finished (built_rules form) (holds done last)))) settled.passes
-        ∙ ap (λ (held : Held). last_kinds form held.rows (fold with_default held.rows (built_rules form))) settled.held in
+        ∙ ap (λ (held : Held). last_kinds form held.rows (fold with_default held.rows (built_rules form)))
+        settled.held in
         agrees_along form (fields_after form fields None (Some [])) _ _ _ _
         (kinds_at_end form (at (holds done last) clap.idle place trailing) ∙ kinds)
         (rows_at_end form (at (holds done last) clap.idle place trailing) ∙ all)

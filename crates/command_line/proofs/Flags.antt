@@ -86,7 +86,8 @@ module _ (form : Form) (words : List Text) (name : Text) (names_flag : NamesFlag
 
   form_tells : (pieces : Option (List Piece))
       → all_tell (option_and_then (λ some.
-      option_and_then (λ fields. cond (are_whole form fields) (Some fields) None) (fields_in form form.positionals some)) pieces)
+      option_and_then (λ fields. cond (are_whole form fields) (Some fields) None)
+      (fields_in form form.positionals some)) pieces)
   form_tells None = tt
   form_tells (Some pieces) =
       whole_tell (fields_in form form.positionals pieces)

@@ -1,5 +1,6 @@
 -- how `clap` reads a word, by its look
-use Rattle.std.proofs.Common.{◌≡◌, ℕ, Bool, true, false, List, [], ◌∷◌, None, Some, refl, sym, subst, arith, bytes_eq, eqb}
+use Rattle.std.proofs.Common.{◌≡◌, ℕ, Bool, true, false, List, [], ◌∷◌, None, Some, refl, sym, subst, arith, bytes_eq}
+use Rattle.std.proofs.Common.{eqb}
 use Rattle.std.specs.Char.{encode_utf8}
 use Rattle.std.specs.Prelude.{slice_get}
 use Rattle.std.specs.Str.{IsUtf8, chars}
@@ -69,7 +70,9 @@ after_one [] = (refl, refl, refl)
 after_one (x ∷ word) = go (eqb x 45) refl
   where
     go : (b : Bool) → eqb x 45 ≡ b → LooksLike (45 ∷ x ∷ word) (look_of (45 ∷ x ∷ word))
-    go true e = subst (λ (y : ℕ). LooksLike (45 ∷ y ∷ word) (look_of (45 ∷ y ∷ word))) (sym ((Decides-eqb x 45).0 e)) (after_two word)
+    go true e =
+        subst (λ (y : ℕ). LooksLike (45 ∷ y ∷ word) (look_of (45 ∷ y ∷ word))) (sym ((Decides-eqb x 45).0 e))
+        (after_two word)
     go false e = looks_short x word e
 
 pub looks : (word : List ℕ) → LooksLike word (look_of word)
@@ -77,7 +80,8 @@ looks [] = (refl, refl, refl)
 looks (x ∷ word) = go (eqb x 45) refl
   where
     go : (b : Bool) → eqb x 45 ≡ b → LooksLike (x ∷ word) (look_of (x ∷ word))
-    go true e = subst (λ (y : ℕ). LooksLike (y ∷ word) (look_of (y ∷ word))) (sym ((Decides-eqb x 45).0 e)) (after_one word)
+    go true e =
+        subst (λ (y : ℕ). LooksLike (y ∷ word) (look_of (y ∷ word))) (sym ((Decides-eqb x 45).0 e)) (after_one word)
     go false e = looks_plain x word e
 
 -- a text that is not empty has a first character

@@ -1,5 +1,6 @@
 -- the word that names a command
-use Rattle.std.proofs.Common.{◌≡◌, ◌∙◌, ℕ, Bool, true, false, List, ◌∷◌, None, String, refl, ap, sym, bytes_eq, codes, string_bytes}
+use Rattle.std.proofs.Common.{◌≡◌, ◌∙◌, ℕ, Bool, true, false, List, ◌∷◌, None, String, refl, ap, sym, bytes_eq, codes}
+use Rattle.std.proofs.Common.{string_bytes}
 use Rattle.std.specs.Global.{Global}
 use Rattle.std.proofs.lemmas.Slice.Eq.{bytes_eq-Decides}
 use Rattle.command_line.specs.Words.{job_of, texts}
@@ -17,7 +18,8 @@ pub no_command : (words : List (String Global)) (name : String Global) (rest : L
     → (word ≡ codes "look" → ⊥) → (word ≡ codes "find" → ⊥) → (word ≡ codes "check" → ⊥) → (word ≡ codes "gen" → ⊥) →
     job_of (texts words) ≡ None
 no_command words name rest word first is run replay look find check gen =
-    ap (λ (all : List (String Global)). job_of (texts all)) first ∙ ap (λ (text : List ℕ). job_of (text ∷ texts rest)) (sym is)
+    ap (λ (all : List (String Global)). job_of (texts all)) first
+    ∙ ap (λ (text : List ℕ). job_of (text ∷ texts rest)) (sym is)
     ∙ rw (
       differs word (codes "run") run,
       differs word (codes "replay") replay,

@@ -18,7 +18,8 @@ use Rattle.command_line.proofs.Walking.{named, next_flag, next_option, stops, tu
 
 -- ---- no subcommand is looked for, and the word is no value for what waits
 
-module _ (form : Form) (held : Held) (waiting : Waiting) (place : ℕ) (word : Text) (met : clap.subcommand_met [] waiting word ≡ None) where
+module _ (form : Form) (held : Held) (waiting : Waiting) (place : ℕ) (word : Text)
+    (met : clap.subcommand_met [] waiting word ≡ None) where
   abbrev walk : Walk
   walk = at held waiting place false
 
@@ -54,7 +55,8 @@ module _ (form : Form) (held : Held) (waiting : Waiting) (place : ℕ) (word : T
   unfolding flags_fault
   short_fails no_skip utf8 looks none =
       let short = looks.2 in
-      let flags : IsUtf8 (short.first ∷ short.rest) = after_dash (short.first ∷ short.rest) (subst IsUtf8 short.whole utf8) in
+      let flags : IsUtf8 (short.first ∷ short.rest) =
+      after_dash (short.first ∷ short.rest) (subst IsUtf8 short.whole utf8) in
       let first = has_char short.first short.rest flags in
       let kinds = rw (met, looks.0, looks.1, short.flags, no_skip, first.1, short_of_form form first.0) at none in cc
 

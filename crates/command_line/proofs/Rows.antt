@@ -1,5 +1,6 @@
 -- the matches of `clap` that say what fields do
-use Rattle.std.proofs.Common.{◌≡◌, ◌∙◌, Bool, true, false, List, [], ◌∷◌, ◌++◌, map, Option, None, Some, refl, ap, sym, bytes_eq, option_map, is_some}
+use Rattle.std.proofs.Common.{◌≡◌, ◌∙◌, Bool, true, false, List, [], ◌∷◌, ◌++◌, map, Option, None, Some, refl, ap, sym}
+use Rattle.std.proofs.Common.{bytes_eq, option_map, is_some}
 use Rattle.std.specs.Prelude.{find, slice_get}
 use Rattle.std.specs.Option.{option_and_then, option_map_or}
 use Rattle.clap.specs.Facts.{explicit_source}
@@ -11,7 +12,8 @@ use Rattle.clap.proofs.WalkLemmas.{find-map, list_any-map}
 use Rattle.command_line.specs.Fields.{Field, has_field, value_in}
 
 abbrev pub row_of_field : Field → Row
-row_of_field field = record { id = field.name; values = field.value ∷ []; count = None; source = Some CommandLine; reading = AsWritten }
+row_of_field field =
+    record { id = field.name; values = field.value ∷ []; count = None; source = Some CommandLine; reading = AsWritten }
 
 abbrev pub rows_of_fields : List Field → List Row
 rows_of_fields = map row_of_field
@@ -44,7 +46,8 @@ module _ (fields : List Field) (id : Text) where
       ap (λ (row : Option Row). option_map_or (λ r. explicit_source r.source) row false) row_at-fields
       ∙ explicit (find (named id) fields) ∙ is_found id fields
     where
-      explicit : (field : Option Field) → option_map_or (λ r. explicit_source r.source) (option_map row_of_field field) false ≡ is_some field
+      explicit : (field : Option Field) →
+          option_map_or (λ r. explicit_source r.source) (option_map row_of_field field) false ≡ is_some field
       explicit None = refl
       explicit (Some field) = refl
 
@@ -52,7 +55,8 @@ module _ (fields : List Field) (id : Text) where
   first_of-fields =
       ap (option_and_then (λ (row : Row). slice_get row.values 0)) row_at-fields ∙ first (find (named id) fields)
     where
-      first : (field : Option Field) → option_and_then (λ (row : Row). slice_get row.values 0) (option_map row_of_field field)
+      first : (field : Option Field) →
+          option_and_then (λ (row : Row). slice_get row.values 0) (option_map row_of_field field)
           ≡ option_map (λ (f : Field). f.value) field
       first None = refl
       first (Some field) = refl

@@ -84,7 +84,8 @@ filled_form form = filled_rules 1 form.positionals form.options form.flags
 
 -- ---- the argument of a long name
 
-no_long : (place : ℕ) (names : List Text) (rest : List Rule) (name : Text) → arg_by_long (numbered place names ++ rest) name ≡ arg_by_long rest name
+no_long : (place : ℕ) (names : List Text) (rest : List Rule) (name : Text) →
+    arg_by_long (numbered place names ++ rest) name ≡ arg_by_long rest name
 no_long place [] rest name = refl
 no_long place (other ∷ names) rest name = no_long (next_place place) names rest name
 
@@ -151,8 +152,11 @@ known_first : (long : Option Text) (index : Option ℕ) (required : Bool) (other
 known_first long index required other id rest later = go (bytes_eq other id) refl
   where
     go : (same : Bool) → bytes_eq other id ≡ same → IsKnown (single other long index required ∷ rest) id
-    go true e = record { long = long; index = index; required = required; found = rw (e, (bytes_eq-Decides other id).0 e) refl }
-    go false e = let known = later e in record { long = known.long; index = known.index; required = known.required; found = rw e known.found }
+    go true e =
+        record { long = long; index = index; required = required; found = rw (e, (bytes_eq-Decides other id).0 e) refl }
+    go false e = let known =
+        later e in
+        record { long = known.long; index = known.index; required = known.required; found = rw e known.found }
 
 known_option : (options flags : List Text) (id : Text) → is_among id options ≡ true
     → IsKnown (named_rules options flags) id
@@ -161,12 +165,15 @@ known_option (other ∷ options) flags id among =
     known_first (Some other) None false other id (named_rules options flags)
     (λ differs. known_option options flags id (rw differs at among))
 
-known_after : (place : ℕ) (names : List Text) (rest : List Rule) (id : Text) → IsKnown rest id → IsKnown (numbered place names ++ rest) id
+known_after : (place : ℕ) (names : List Text) (rest : List Rule) (id : Text) → IsKnown rest id →
+    IsKnown (numbered place names ++ rest) id
 known_after place [] rest id known = known
 known_after place (other ∷ names) rest id known =
-    known_first None (Some place) true other id (numbered (next_place place) names ++ rest) (λ differs. known_after (next_place place) names rest id known)
+    known_first None (Some place) true other id (numbered (next_place place) names ++ rest)
+    (λ differs. known_after (next_place place) names rest id known)
 
-known_word : (place : ℕ) (names : List Text) (rest : List Rule) (id : Text) → is_among id names ≡ true → IsKnown (numbered place names ++ rest) id
+known_word : (place : ℕ) (names : List Text) (rest : List Rule) (id : Text) → is_among id names ≡ true →
+    IsKnown (numbered place names ++ rest) id
 known_word place [] rest id among = cc
 known_word place (other ∷ names) rest id among =
     known_first None (Some place) true other id (numbered (next_place place) names ++ rest)
@@ -183,13 +190,15 @@ option_known form id among =
 abbrev pub Reads : List Rule → ℕ → List Text → Type 0
 Reads rules place [] = arg_by_index rules place ≡ None
 Reads rules place (name ∷ names) =
-    (arg_by_index rules place ≡ Some (single name None (Some place) true)) × IsKnown rules name × Reads rules (next_place place) names
+    (arg_by_index rules place ≡ Some (single name None (Some place) true)) × IsKnown rules name
+    × Reads rules (next_place place) names
 
 -- none of the rules has this place or one after it
 abbrev Below : List Rule → ℕ → Type 0
 Below rules place = (at : ℕ) (rest : List Rule) → place ≤ at → arg_by_index (rules ++ rest) at ≡ arg_by_index rest at
 
-below_more : (rules : List Rule) (place : ℕ) (name : Text) → Below rules place → Below (rules ++ single name None (Some place) true ∷ []) (place + 1)
+below_more : (rules : List Rule) (place : ℕ) (name : Text) → Below rules place →
+    Below (rules ++ single name None (Some place) true ∷ []) (place + 1)
 below_more rules place name below at rest le =
     ap (λ all. arg_by_index all at) (append_assoc rules (single name None (Some place) true ∷ []) rest)
     ∙ below at (single name None (Some place) true ∷ rest) (omega arith) ∙ rw (differs place at (omega arith)) refl
@@ -219,7 +228,8 @@ reads rules before place (name ∷ names) others few below none is known =
       known name (rw ((bytes_eq-Decides name name).1 refl) refl),
       rw next (reads rules (before ++ first ∷ []) (place + 1) names others (omega arith)
           (below_more before place name below) none
-          (is ∙ rw next (sym (append_assoc before (first ∷ []) _))) (λ id among. known id (either (bytes_eq name id) _ among))),
+          (is ∙ rw next (sym (append_assoc before (first ∷ []) _)))
+          (λ id among. known id (either (bytes_eq name id) _ among))),
     )
   where
     same : (n : ℕ) → eqb n n ≡ true

@@ -1,5 +1,6 @@
 -- what a form takes of the words is what `clap` takes
-use Rattle.std.proofs.Common.{◌≡◌, ◌∙◌, ℕ, ◌<◌, Bool, cond, true, false, List, [], ◌∷◌, map, length, Option, None, Some, refl, ap, sym}
+use Rattle.std.proofs.Common.{◌≡◌, ◌∙◌, ℕ, ◌<◌, Bool, cond, true, false, List, [], ◌∷◌, map, length, Option, None, Some}
+use Rattle.std.proofs.Common.{refl, ap, sym}
 use Rattle.std.specs.Str.{IsUtf8}
 use Rattle.std.specs.Option.{option_and_then}
 use Rattle.clap.specs.Faults.{fault_of, level_fault}
@@ -35,17 +36,20 @@ free_at done last place trailing = at (holds done last) clap.idle place trailing
 
 module _ (form : Form) where
   -- after `--` each word is a positional one
-  trails : (words : List Text) (done : List Field) (last : Option Field) (place : ℕ) (names : List Text) → IsKnownLast (built_rules form) last
+  trails : (words : List Text) (done : List Field) (last : Option Field) (place : ℕ) (names : List Text) →
+      IsKnownLast (built_rules form) last
       → Reads (built_rules form) place names
       → Continues form (free_at done last place true) words done last (fields_in form names (map Positional words))
   trails [] done last place names known reads = ends form done last place true known
   trails (word ∷ words) done last place names known reads =
-      word_goes form done last place true word words names (Some (map Positional words)) known reads (trailing_word form (holds done last) place word)
+      word_goes form done last place true word words names (Some (map Positional words)) known reads
+      (trailing_word form (holds done last) place word)
       (λ done_now name others is next. trails words done_now (Some (field_of name word)) _ others is next)
 
   -- from any place of the walk on, where no option wants a value, and where one does
   record Walks (words : List Text) : Type 0 where
-    free : (done : List Field) (last : Option Field) (place : ℕ) (names : List Text) → IsKnownLast (built_rules form) last
+    free : (done : List Field) (last : Option Field) (place : ℕ) (names : List Text) →
+        IsKnownLast (built_rules form) last
         → Reads (built_rules form) place names
         → Continues form (free_at done last place false) words done last
         (named form names (pieces_after form.options words None))
@@ -60,8 +64,10 @@ module _ (form : Form) where
     wanting = λ done place name names among reads. wants_ends form done place name (option_known form name among) false;
   }
 
-  module _ (word : Text) (words : List Text) (walks : Walks words) (utf8 : IsUtf8 word) (done : List Field) (last : Option Field) (place : ℕ)
-      (names : List Text) (known : IsKnownLast (built_rules form) last) (reads : Reads (built_rules form) place names) where
+  module _ (word : Text) (words : List Text) (walks : Walks words) (utf8 : IsUtf8 word) (done : List Field)
+      (last : Option Field) (place : ℕ)
+      (names : List Text) (known : IsKnownLast (built_rules form) last)
+      (reads : Reads (built_rules form) place names) where
     abbrev start : Walk
     start = free_at done last place false
 
@@ -119,10 +125,13 @@ module _ (form : Form) where
 
     word_read : (look : Look) → LooksLike word look → Continues form start (word ∷ words) done last (given look)
     word_read End looks =
-        goes_on form start (free_at done last place true) word words _ (end_kinds form (holds done last) clap.idle place word refl looks)
-        (end_moves form (holds done last) clap.idle place word refl looks) (trails words done last place names known reads)
+        goes_on form start (free_at done last place true) word words _
+        (end_kinds form (holds done last) clap.idle place word refl looks)
+        (end_moves form (holds done last) clap.idle place word refl looks)
+        (trails words done last place names known reads)
     word_read (Long name value) looks = option_read (is_among name form.options) name value refl looks
-    word_read Short looks = stops form start word words (short_fails form (holds done last) clap.idle place word refl refl utf8 looks)
+    word_read Short looks =
+        stops form start word words (short_fails form (holds done last) clap.idle place word refl refl utf8 looks)
     word_read Plain looks =
         word_goes form done last place false word words names (pieces_after form.options words None) known reads
         (plain_word form (holds done last) place word looks)
@@ -132,9 +141,12 @@ module _ (form : Form) where
   walks [] texts = no_words
   walks (word ∷ words) texts = record {
     free = λ done last place names known reads.
-        word_read word words (walks words texts.1) texts.0 done last place names known reads (look_of word) (looks word);
+        word_read word words (walks words texts.1) texts.0 done last place names known reads
+        (look_of word) (looks word);
     wanting = λ done place name names among reads.
-        let later = (walks words texts.1).free done (Some (field_of name word)) place names (option_known form name among) reads in
+        let later =
+        (walks words texts.1).free done (Some (field_of name word)) place names
+        (option_known form name among) reads in
         value_goes form done place name (option_known form name among) names word words
         (pieces_after form.options words) among reads texts.0 later
         (look_of word) (looks word);
@@ -154,7 +166,9 @@ module _ (form : Form) where
       go (Some pieces) = refl
 
   built_form : (built (app_by form)).top ≡ built_shape form
-  built_form = ap (λ (rules : List Rule). let shape : Shape = record (built_shape form) { rules = rules } in shape) (filled_form form)
+  built_form =
+      ap (λ (rules : List Rule). let shape : Shape = record (built_shape form) { rules = rules } in shape)
+      (filled_form form)
 
   -- the parse fails exactly where the form does not take the words, and its matches are the form's fields
   pub taken : (words : List Text) → length form.positionals < usize_max → AreTexts words
@@ -162,7 +176,8 @@ module _ (form : Form) where
   taken words few texts =
       agrees_along form (fields_of form words) _ _ _ _
       (leaf_fault (built (app_by form)) clap.nothing_held words refl
-      ∙ ap (λ (shape : Shape). level_fault shape [] clap.nothing_held words false []) built_form ∙ kinds_at_start form words)
+      ∙ ap (λ (shape : Shape). level_fault shape [] clap.nothing_held words false []) built_form
+      ∙ kinds_at_start form words)
       (ap (λ (rules : List Rule). clap.rows_after rules [] words) (filled_form form) ∙ rows_at_start form words)
       (gives_as form (free_at [] None 1 false) words _ _ (sym (same_fields words))
       ((walks words texts).free [] None 1 form.positionals tt (form_reads form few)))

@@ -1,5 +1,6 @@
 -- what one field does to the matches of `clap`, and what fails at it
-use Rattle.std.proofs.Common.{◌≡◌, ◌∙◌, ℕ, ◌⊎◌, Bool, cond, true, false, List, [], ◌∷◌, ◌++◌, Option, None, Some, refl, ap, sym, inl, inr, option_map}
+use Rattle.std.proofs.Common.{◌≡◌, ◌∙◌, ℕ, ◌⊎◌, Bool, cond, true, false, List, [], ◌∷◌, ◌++◌, Option, None, Some, refl}
+use Rattle.std.proofs.Common.{ap, sym, inl, inr, option_map}
 use Rattle.std.specs.Option.{option_to_list}
 use Rattle.std.proofs.lemmas.List.{append-nil, map-append}
 use Rattle.clap.specs.Faults.{repeat_fault, settle_fault, use_fault}
@@ -83,7 +84,8 @@ module _ (rule : Rule) (values : List Text) (field : Field) (gives : GivesField 
 
 -- the matches of these fields, where the last one may still wait to be used
 abbrev pub holds : List Field → Option Field → Held
-holds done last = record { rows = rows_of_fields done; pending = option_map (λ field. (field.name, field.value ∷ [])) last; skip = 0 }
+holds done last =
+    record { rows = rows_of_fields done; pending = option_map (λ field. (field.name, field.value ∷ [])) last; skip = 0 }
 
 abbrev pub IsKnownLast : List Rule → Option Field → Type 0
 IsKnownLast rules None = Unit {0}
@@ -106,7 +108,8 @@ pub record Settles (rules : List Rule) (done : List Field) (last : Option Field)
 abbrev known_rule : (rules : List Rule) (id : Text) → IsKnown rules id → Rule
 known_rule rules id known = single id known.long known.index known.required
 
-pub settles : (rules : List Rule) (done : List Field) (last : Option Field) → IsKnownLast rules last → Repeats rules done last ⊎ Settles rules done last
+pub settles : (rules : List Rule) (done : List Field) (last : Option Field) → IsKnownLast rules last →
+    Repeats rules done last ⊎ Settles rules done last
 settles rules done None known = inr (record {
   passes = refl;
   held = ap (λ fields. holds fields None) (sym (append-nil done));

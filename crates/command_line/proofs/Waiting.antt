@@ -15,10 +15,12 @@ use Rattle.command_line.proofs.Options.{valued_flag_fails, wants}
 use Rattle.command_line.proofs.Rules.{IsKnown, Reads, built_rules}
 use Rattle.command_line.proofs.Rows.{rows_of_fields}
 use Rattle.command_line.proofs.Uses.{Fails, first_fails, holds}
-use Rattle.command_line.proofs.Walking.{Continues, Gives, after_word, at, gives_as, goes_on, kinds_at_end, named, next_option, stops, turn}
+use Rattle.command_line.proofs.Walking.{Continues, Gives, after_word, at, gives_as, goes_on, kinds_at_end, named}
+use Rattle.command_line.proofs.Walking.{next_option, stops, turn}
 
 -- `--` ends the options
-module _ (form : Form) (held : Held) (waiting : Waiting) (place : ℕ) (word : Text) (met : clap.subcommand_met [] waiting word ≡ None)
+module _ (form : Form) (held : Held) (waiting : Waiting) (place : ℕ) (word : Text)
+    (met : clap.subcommand_met [] waiting word ≡ None)
     (looks : LooksLike word End) where
   pub end_kinds : turn form (at held waiting place false) word ≡ []
   end_kinds = rw (met, looks) refl
@@ -45,16 +47,21 @@ module _ (form : Form) (done : List Field) (place : ℕ) (name : Text) (known : 
   starved none = let kinds = rw known.found at none in cc
 
   pub wants_ends : (trailing : Bool) → Gives form (wants done name place trailing) [] None
-  wants_ends trailing = subst Fails (sym (kinds_at_end form (wants done name place trailing))) (first_fails settle_kinds _ starved)
+  wants_ends trailing =
+      subst Fails (sym (kinds_at_end form (wants done name place trailing))) (first_fails settle_kinds _ starved)
 
   -- after `--` no word is its value
-  after_end_fails : (names : List Text) (word : Text) → Reads (built_rules form) place names → Fails (turn form (wants done name place true) word)
+  after_end_fails : (names : List Text) (word : Text) → Reads (built_rules form) place names →
+      Fails (turn form (wants done name place true) word)
   after_end_fails [] word reads none = let kinds = rw reads at none in cc
-  after_end_fails (other ∷ names) word reads none = let kinds = rw reads.0 at none in starved (rw (and-false _) at kinds)
+  after_end_fails (other ∷ names) word reads none = let kinds = rw reads.0 at none in
+      starved (rw (and-false _) at kinds)
 
-  pub wants_after_end : (names words : List Text) → Reads (built_rules form) place names → Gives form (wants done name place true) words None
+  pub wants_after_end : (names words : List Text) → Reads (built_rules form) place names →
+      Gives form (wants done name place true) words None
   wants_after_end names [] reads = wants_ends true
-  wants_after_end names (word ∷ words) reads = stops form (wants done name place true) word words (after_end_fails names word reads)
+  wants_after_end names (word ∷ words) reads =
+      stops form (wants done name place true) word words (after_end_fails names word reads)
 
   -- a word with two dashes is not its value
   other_fails : (b : Bool) (word other : Text) (value : Option Text) → is_among other form.options ≡ false
@@ -68,7 +75,8 @@ module _ (form : Form) (done : List Field) (place : ℕ) (name : Text) (known : 
       subst Fails (sym (flag_kinds form held waiting place word refl other no_option among looks))
       (first_fails _ [] (first_fails settle_kinds _ starved))
 
-  option_fails : (b : Bool) (word other : Text) (value : Option Text) → is_among other form.options ≡ b → LooksLike word (Long other value)
+  option_fails : (b : Bool) (word other : Text) (value : Option Text) → is_among other form.options ≡ b →
+      LooksLike word (Long other value)
       → Fails (turn form start word)
   option_fails false word other value no_option looks =
       other_fails (is_among other form.flags) word other value no_option refl looks
@@ -76,7 +84,8 @@ module _ (form : Form) (done : List Field) (place : ℕ) (name : Text) (known : 
       subst Fails (sym (attached_kinds form held waiting place word refl other value among looks))
       (first_fails _ [] (first_fails settle_kinds _ starved))
   option_fails true word other None among looks =
-      subst Fails (sym (named_kinds form held waiting place word refl other among looks)) (first_fails settle_kinds [] starved)
+      subst Fails (sym (named_kinds form held waiting place word refl other among looks))
+      (first_fails settle_kinds [] starved)
 
   -- the walk after its value
   abbrev pub fed : Text → Walk
@@ -89,15 +98,18 @@ module _ (form : Form) (done : List Field) (place : ℕ) (name : Text) (known : 
   unfolding walked
   value_moves word looks = rw (looks.0, looks.1, looks.2, known.found, (bytes_eq-Decides name name).1 refl) refl
 
-  module _ (names : List Text) (word : Text) (words : List Text) (rest : Option Text → Option (List Piece)) (among : is_among name form.options ≡ true)
+  module _ (names : List Text) (word : Text) (words : List Text) (rest : Option Text → Option (List Piece))
+      (among : is_among name form.options ≡ true)
       (reads : Reads (built_rules form) place names) (utf8 : IsUtf8 word)
       (later : Continues form (fed word) words done (Some (field_of name word)) (named form names (rest None))) where
     pub value_goes : (look : Look) → LooksLike word look
         → Continues form start (word ∷ words) done None (named form names (value_then name word rest look))
     value_goes End looks =
         goes_on form start (wants done name place true) word words None
-        (end_kinds form held waiting place word refl looks) (end_moves form held waiting place word refl looks) (wants_after_end names words reads)
-    value_goes (Long other value) looks = stops form start word words (option_fails (is_among other form.options) word other value refl looks)
+        (end_kinds form held waiting place word refl looks) (end_moves form held waiting place word refl looks)
+        (wants_after_end names words reads)
+    value_goes (Long other value) looks =
+        stops form start word words (option_fails (is_among other form.options) word other value refl looks)
     value_goes Short looks = stops form start word words (short_fails form held waiting place word refl refl utf8 looks)
     value_goes Plain looks =
         gives_as form start (word ∷ words) _ _ (next_option form done name word names (rest None) among)

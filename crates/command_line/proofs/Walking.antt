@@ -1,5 +1,6 @@
 -- the walk of `clap` over the words, and the fields that a form takes of them
-use Rattle.std.proofs.Common.{◌≡◌, ◌∙◌, ◌⊎◌, inl, inr, ℕ, ◌&&◌, Bool, cond, true, false, List, [], ◌∷◌, ◌++◌, append_assoc, Option, None, Some, refl}
+use Rattle.std.proofs.Common.{◌≡◌, ◌∙◌, ◌⊎◌, inl, inr, ℕ, ◌&&◌, Bool, cond, true, false, List, [], ◌∷◌, ◌++◌}
+use Rattle.std.proofs.Common.{append_assoc, Option, None, Some, refl}
 use Rattle.std.proofs.Common.{ap, sym, subst, fold, codes}
 use Rattle.std.specs.List.{list_all}
 use Rattle.std.specs.Option.{option_and_then, option_to_list}
@@ -12,7 +13,8 @@ use Rattle.command_line.specs.Fields.{Field, Form, are_new, field_of, fields_in,
 use Rattle.command_line.specs.Pieces.{Piece, OptionWith, Flag, Positional, and_then, is_among}
 use Rattle.command_line.proofs.Rules.{built_rules}
 use Rattle.command_line.proofs.Rows.{rows_of_fields}
-use Rattle.command_line.proofs.Uses.{Fails, IsKnownLast, Repeats, Settles, first_fails, or_else-assoc, settles, with_last}
+use Rattle.command_line.proofs.Uses.{Fails, IsKnownLast, Repeats, Settles, first_fails, or_else-assoc, settles}
+use Rattle.command_line.proofs.Uses.{with_last}
 
 -- the command of a form, once it is built
 abbrev pub built_shape : Form → Shape
@@ -102,9 +104,11 @@ module _ (form : Form) where
   repeated done last repeats (Some more) = rw (repeats.again more) refl
 
   pub settled_fields : (done : List Field) (last : Option Field) → Settles (built_rules form) done last
-      → (fields : Option (List Field)) → fields_after form done last fields ≡ fields_after form (with_last done last) None fields
+      → (fields : Option (List Field)) →
+      fields_after form done last fields ≡ fields_after form (with_last done last) None fields
   settled_fields done last settled None = refl
-  settled_fields done last settled (Some more) = rw (settled.new more, append_assoc done (option_to_list last) more) refl
+  settled_fields done last settled (Some more) =
+      rw (settled.new more, append_assoc done (option_to_list last) more) refl
 
   -- a field becomes the last one
   next_field : (done : List Field) (field : Field) (fields : Option (List Field))
@@ -153,7 +157,8 @@ module _ (form : Form) where
 
 module _ (form : Form) where
   kinds_step : (walk : Walk) (word : Text) (words : List Text)
-      → kinds_from form walk (word ∷ words) ≡ or_else (turn form walk word) (kinds_from form (after_word form walk word) words)
+      → kinds_from form walk (word ∷ words) ≡ or_else (turn form walk word)
+      (kinds_from form (after_word form walk word) words)
   unfolding kinds_from walk_fault
   kinds_step walk word words =
       or_else-assoc (turn form walk word) (walk_fault (built_shape form) [] (after_word form walk word) words)
@@ -166,7 +171,8 @@ module _ (form : Form) where
 
   -- before the first word
   pub kinds_at_start : (words : List Text)
-      → level_fault (built_shape form) [] nothing_held words false [] ≡ kinds_from form (at nothing_held idle 1 false) words
+      → level_fault (built_shape form) [] nothing_held words false [] ≡ kinds_from form
+      (at nothing_held idle 1 false) words
   unfolding kinds_from
   kinds_at_start words = refl
 
@@ -185,29 +191,36 @@ module _ (form : Form) where
   rows_at_end walk = refl
 
   -- a word fails
-  pub stops : (walk : Walk) (word : Text) (words : List Text) → Fails (turn form walk word) → Gives form walk (word ∷ words) None
+  pub stops : (walk : Walk) (word : Text) (words : List Text) → Fails (turn form walk word) →
+      Gives form walk (word ∷ words) None
   stops walk word words fails = subst Fails (sym (kinds_step walk word words)) (first_fails _ _ fails)
 
   -- a word passes, and then the walk is `next`
-  pub goes_on : (walk next : Walk) (word : Text) (words : List Text) (fields : Option (List Field)) → turn form walk word ≡ []
+  pub goes_on : (walk next : Walk) (word : Text) (words : List Text) (fields : Option (List Field)) →
+      turn form walk word ≡ []
       → after_word form walk word ≡ next → Gives form next words fields → Gives form walk (word ∷ words) fields
   goes_on walk next word words fields passes is gives =
       agrees_along form fields _ _ _ _
       (kinds_step walk word words
-      ∙ ap (λ first. or_else first (kinds_from form (after_word form walk word) words)) passes ∙ ap (λ w. kinds_from form w words) is)
+      ∙ ap (λ first. or_else first (kinds_from form (after_word form walk word) words)) passes
+      ∙ ap (λ w. kinds_from form w words) is)
       (rows_step walk word words ∙ ap (λ w. rows_from form w words) is) gives
 
   -- the same fields, said otherwise
   pub gives_as : (walk : Walk) (words : List Text) (fields other : Option (List Field)) → fields ≡ other
       → Gives form walk words other → Gives form walk words fields
-  gives_as walk words fields other is gives = subst (λ (x : Option (List Field)). Gives form walk words x) (sym is) gives
+  gives_as walk words fields other is gives =
+      subst (λ (x : Option (List Field)). Gives form walk words x) (sym is) gives
 
 -- what was read before is used, and fails there or is done
-pub by_settling : (form : Form) (walk : Walk) (words : List Text) (done : List Field) (last : Option Field) (fields : Option (List Field))
+pub by_settling : (form : Form) (walk : Walk) (words : List Text) (done : List Field) (last : Option Field)
+    (fields : Option (List Field))
     → IsKnownLast (built_rules form) last → (Repeats (built_rules form) done last → Gives form walk words None)
-    → (Settles (built_rules form) done last → Continues form walk words (with_last done last) None fields) → Continues form walk words done last fields
+    → (Settles (built_rules form) done last → Continues form walk words (with_last done last) None fields) →
+    Continues form walk words done last fields
 by_settling form walk words done last fields known fails goes = go (settles (built_rules form) done last known)
   where
-    go : Repeats (built_rules form) done last ⊎ Settles (built_rules form) done last → Continues form walk words done last fields
+    go : Repeats (built_rules form) done last ⊎ Settles (built_rules form) done last →
+        Continues form walk words done last fields
     go (inl repeats) = gives_as form walk words _ None (repeated form done last repeats fields) (fails repeats)
     go (inr settled) = gives_as form walk words _ _ (settled_fields form done last settled fields) (goes settled)

@@ -34,9 +34,11 @@ runs = refl
 
 options_in_any_order :
     job_of
-    (codes "run" ∷ codes "--trace" ∷ codes "t" ∷ codes "--steps=33" ∷ codes "a" ∷ codes "--ways" ∷ codes "8" ∷ codes "--harts=2"
+    (codes "run" ∷ codes "--trace" ∷ codes "t" ∷ codes "--steps=33" ∷ codes "a" ∷ codes "--ways" ∷ codes "8"
+    ∷ codes "--harts=2"
     ∷ codes "--sets" ∷ codes "64" ∷ [])
-    ≡ Some (Run (record bare { harts = Some 2; sets = Some 64; ways = Some 8; steps = Some 33; trace = Some (codes "t") }))
+    ≡ Some
+    (Run (record bare { harts = Some 2; sets = Some 64; ways = Some 8; steps = Some 33; trace = Some (codes "t") }))
 options_in_any_order = refl
 
 modes_and_sections :
@@ -193,7 +195,8 @@ empty_value = refl
 short_option : job_of (codes "run" ∷ codes "-a" ∷ []) ≡ None
 short_option = refl
 
-after_the_options : job_of (codes "run" ∷ codes "--" ∷ codes "--harts" ∷ []) ≡ Some (Run (record bare { image = codes "--harts" }))
+after_the_options : job_of (codes "run" ∷ codes "--" ∷ codes "--harts" ∷ [])
+    ≡ Some (Run (record bare { image = codes "--harts" }))
 after_the_options = refl
 
 one_dash : job_of (codes "gen" ∷ codes "overflow" ∷ codes "0" ∷ codes "-" ∷ []) ≡ Some (Gen Overflow 0 (codes "-"))
@@ -219,7 +222,8 @@ no_digits = refl
 bare_config : config_of bare ≡ usual
 bare_config = refl
 
-sections : config_of (record bare { mode = Some Plain; lines = Some 8; long = Some 100 }) ≡ record usual { mode = Plain; lines = 8; long = 100 }
+sections : config_of (record bare { mode = Some Plain; lines = Some 8; long = Some 100 })
+    ≡ record usual { mode = Plain; lines = 8; long = 100 }
 sections = refl
 
 nine_harts : config_fault (config_of (record bare { harts = Some 9 })) ≡ Some Harts

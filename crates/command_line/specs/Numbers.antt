@@ -1,5 +1,6 @@
 -- number words: 1 to 10 decimal digits of a number below 2 ^ 32, leading zeros allowed
-use Rattle.std.specs.Prelude.{ℕ, Bool, ◌+◌, ◌-◌, ◌*◌, ◌^◌, ◌&&◌, nat_lt, nat_le, if◌then◌else◌, List, [], ◌∷◌, length, Option, None, Some}
+use Rattle.std.specs.Prelude.{ℕ, Bool, ◌+◌, ◌-◌, ◌*◌, ◌^◌, ◌&&◌, nat_lt, nat_le, if◌then◌else◌, List, [], ◌∷◌, length}
+use Rattle.std.specs.Prelude.{Option, None, Some}
 use Rattle.std.specs.Option.{option_and_then}
 
 abbrev pub is_digit : ℕ → Bool
@@ -16,4 +17,5 @@ below_word number = if nat_lt number (2 ^ 32) then Some number else None
 -- the number of a word, or none where it is no number word
 abbrev pub number_of : List ℕ → Option ℕ
 number_of word =
-    if nat_le 1 (length word) && nat_le (length word) 10 then option_and_then below_word (digits_number 0 word) else None
+    if nat_le 1 (length word) && nat_le (length word) 10 then option_and_then below_word
+    (digits_number 0 word) else None

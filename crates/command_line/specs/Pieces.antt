@@ -1,5 +1,6 @@
 -- the words after a command's name, piece by piece: options with their values, and positional words
-use Rattle.std.specs.Prelude.{ℕ, ◌==◌, ◌&&◌, Bool, List, [], ◌∷◌, map, drop, codes, bytes_eq, nat_eq, not, if◌then◌else◌, Option, None, Some, option_map}
+use Rattle.std.specs.Prelude.{ℕ, ◌==◌, ◌&&◌, Bool, List, [], ◌∷◌, map, drop, codes, bytes_eq, nat_eq, not}
+use Rattle.std.specs.Prelude.{if◌then◌else◌, Option, None, Some, option_map}
 use Rattle.std.specs.List.{after_first, before_first, list_any, starts_with}
 
 -- how a word looks: `--` alone, which ends the options; `--NAME` or `--NAME=VALUE`; any other word that begins with
@@ -16,7 +17,8 @@ is_equals_sign code = code == 61
 -- what stands before the first '=', and where there is one what stands after it
 abbrev pub name_and_value : List ℕ → Look
 name_and_value text =
-    Long (before_first is_equals_sign text) (if list_any is_equals_sign text then Some (after_first is_equals_sign text) else None)
+    Long (before_first is_equals_sign text)
+    (if list_any is_equals_sign text then Some (after_first is_equals_sign text) else None)
 
 abbrev pub look_of : List ℕ → Look
 look_of word =

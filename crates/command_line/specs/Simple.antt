@@ -41,7 +41,8 @@ rules_of form = map positional_rule form.positionals ++ (map option_rule form.op
 -- the command with these arguments, and without help
 abbrev pub app_with : List Rule → App
 app_with rules =
-    on_top (λ shape. record shape { rules = rules; no_binary_name = true; disable_help_flag = true }) (new_app (codes "elide"))
+    on_top (λ shape. record shape { rules = rules; no_binary_name = true; disable_help_flag = true })
+    (new_app (codes "elide"))
 
 abbrev pub app_by : Form → App
 app_by form = app_with (rules_of form)

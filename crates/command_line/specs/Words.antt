@@ -1,5 +1,6 @@
 -- what the words of a command line ask for
-use Rattle.std.specs.Prelude.{ℕ, Bool, true, false, not, ◌&&◌, ◌||◌, nat_le, List, [], ◌∷◌, String, string_bytes, map, codes, bytes_eq, is_some}
+use Rattle.std.specs.Prelude.{ℕ, Bool, true, false, not, ◌&&◌, ◌||◌, nat_le, List, [], ◌∷◌, String, string_bytes, map}
+use Rattle.std.specs.Prelude.{codes, bytes_eq, is_some}
 use Rattle.std.specs.Prelude.{unwrap_or, Option, None, Some, if◌then◌else◌}
 use Rattle.std.specs.List.{list_any}
 use Rattle.std.specs.Option.{option_map}

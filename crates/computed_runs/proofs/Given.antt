@@ -1,5 +1,6 @@
 -- how a run of small numbers is told: where it starts, its events, and what it comes to
-use Rattle.std.proofs.Common.{ℕ, ◌+◌, ◌-◌, ◌*◌, ◌/◌, ◌%◌, ◌^◌, Bool, List, [], ◌∷◌, ◌==◌, if◌then◌else◌, map, filter, replicate, Option, Some, None}
+use Rattle.std.proofs.Common.{ℕ, ◌+◌, ◌-◌, ◌*◌, ◌/◌, ◌%◌, ◌^◌, Bool, List, [], ◌∷◌, ◌==◌, if◌then◌else◌, map, filter}
+use Rattle.std.proofs.Common.{replicate, Option, Some, None}
 use Rattle.std.specs.Prelude.{slice_set}
 use Rattle.std.specs.List.{range_with_len}
 use Rattle.bus_order.specs.Order.{Request}
@@ -78,7 +79,8 @@ bytes_of [] = []
 bytes_of (word ∷ words) =
     word % 256 ∷ word / 256 % 256 ∷ word / 65536 % 256 ∷ word / 16777216 ∷ bytes_of words
 
--- a hart that begins at the start of the code, with its number, the number of harts and a stack pointer that may lie below memory
+-- a hart that begins at the start of the code, with its number, the number of harts and a stack
+-- pointer that may lie below memory
 abbrev pub first_view_at : Config → ℕ → ℕ → ℕ → HartView
 first_view_at config end start h = record {
   pc = start;

@@ -17,7 +17,8 @@ use Rattle.core_step.specs.Written.{appended_of, read_of}
 use Rattle.core_step.specs.declared.ended.Ended.TheVariants.{Ran}
 use Rattle.core_step.proofs.Laws.Runs.{performed}
 
-appended-append : (action : Action) (view : HartView) (byte : ℕ → ℕ) → appended_of action ≡ option_map read_of (append_in (perform action view byte))
+appended-append : (action : Action) (view : HartView) (byte : ℕ → ℕ) →
+    appended_of action ≡ option_map read_of (append_in (perform action view byte))
 appended-append (actions.Append address len) view byte = refl
 appended-append _ view byte = refl
 
@@ -41,22 +42,27 @@ call-touched : (word : ℕ) (view : HartView) (span : Span) (room : ℕ) → dec
 call-touched word view span room is = rw is refl
 
 call-executed : (word : ℕ) (view : HartView) (span : Span) (room : ℕ) (byte : ℕ → ℕ) → decoded word ≡ Some Ecall →
-    executed (Some word) view span room byte ≡ perform (action_of Ecall view.pc view.regs view.reserved span room) view byte
+    executed (Some word) view span room byte
+    ≡ perform (action_of Ecall view.pc view.regs view.reserved span room) view byte
 call-executed word view span room byte is =
-    performed (Some word) view span room byte ∙ ap (λ action. perform action view byte) (call-action word view span room is)
+    performed (Some word) view span room byte ∙ ap (λ action. perform action view byte)
+    (call-action word view span room is)
 
 -- what a call appends is what its execution does, it is what the call touches, and where it is permitted the call runs
 pub appends : (word : ℕ) (view : HartView) (span : Span) (room : ℕ) (byte : ℕ → ℕ) →
     decoded word ≡ Some Ecall →
-    appended_of (action_of Ecall view.pc view.regs view.reserved span room) ≡ option_map read_of (append_in (executed (Some word) view span room byte))
+    appended_of (action_of Ecall view.pc view.regs view.reserved span room) ≡ option_map read_of
+    (append_in (executed (Some word) view span room byte))
 appends word view span room byte is =
     appended-append (action_of Ecall view.pc view.regs view.reserved span room) view byte
     ∙ sym (ap (λ execution. option_map read_of (append_in execution)) (call-executed word view span room byte is))
 
 pub touches : (word : ℕ) (view : HartView) (span : Span) (room : ℕ) → decoded word ≡ Some Ecall →
-    IfSome (appended_of (action_of Ecall view.pc view.regs view.reserved span room)) (λ access. touched (Some word) view span room ≡ access)
+    IfSome (appended_of (action_of Ecall view.pc view.regs view.reserved span room))
+    (λ access. touched (Some word) view span room ≡ access)
 touches word view span room is =
-    rw (call-touched word view span room is) (appended-footprint (action_of Ecall view.pc view.regs view.reserved span room))
+    rw (call-touched word view span room is)
+    (appended-footprint (action_of Ecall view.pc view.regs view.reserved span room))
 
 pub runs : (word : ℕ) (view : HartView) (span : Span) (room : ℕ) (byte : ℕ → ℕ) (permits : ℕ → Need → Bool) →
     decoded word ≡ Some Ecall →

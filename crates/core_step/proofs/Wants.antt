@@ -11,7 +11,8 @@ use Rattle.core_step.specs.Run.{refused}
 wanted_line : (address : ℕ) (line : LineAddr) → address < 2 ^ 32 → line.number ≡ line_number address →
     line ≡ line_addr (line_number address)
 wanted_line address line small is =
-    same_line line (line_addr (line_number address)) (is ∙ sym (line_addr-number (line_number address) (line_number-below address small)))
+    same_line line (line_addr (line_number address))
+    (is ∙ sym (line_addr-number (line_number address) (line_number-below address small)))
 
 -- a line that is not permitted is refused
 pub refused_line : (permits : ℕ → Need → Bool) (address : ℕ) (line : LineAddr) (need : Need) → address < 2 ^ 32 →

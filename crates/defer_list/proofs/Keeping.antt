@@ -35,8 +35,8 @@ module _ (items : List Origin) (holds : List Bool) (kept : IsKept items holds) w
           ∙ kept.each other below
           ∙ sym (others other apart)
 
-  pub kept_added : (new : Origin) (after : List Origin) → has (numbers items) new.hart.number ≡ false → after ≡ new ∷ items →
-      IsKept after (set holds new.hart.number true)
+  pub kept_added : (new : Origin) (after : List Origin) → has (numbers items) new.hart.number ≡ false →
+      after ≡ new ∷ items → IsKept after (set holds new.hart.number true)
   kept_added new after none is =
       let hart : ℕ = new.hart.number in
       let added : numbers after ≡ included (numbers items) hart = ap numbers is ∙ added_included items new none in

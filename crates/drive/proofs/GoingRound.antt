@@ -11,7 +11,8 @@ use Rattle.el_base.proofs.Laws.ListLaws.{slice_get_push}
 use Rattle.drive.specs.RoundRobin.{IsEventAt}
 use Rattle.drive.specs.Turns.{IsAtItsEnd}
 use Rattle.el_model.specs.Next.{is_over, state_after}
-use Rattle.machine.proofs.Laws.Continued.{continued_more, continued_twice, left_of_continued, nothing_more, state_of_continued}
+use Rattle.machine.proofs.Laws.Continued.{continued_more, continued_twice, left_of_continued, nothing_more}
+use Rattle.machine.proofs.Laws.Continued.{state_of_continued}
 use Rattle.machine.proofs.Laws.Continued.{going_more}
 use Rattle.machine.specs.Resting.{bus_events, turn_events}
 use Rattle.machine.specs.Story.{Story, continued, left_of, state_of}
@@ -27,7 +28,8 @@ none_made story = record {
 }
 
 -- the state that a round has reached
-reached : (before now : Story) (place : ℕ) (round : GoesRound before now place) → state_of now ≡ state_after (state_of before) round.made
+reached : (before now : Story) (place : ℕ) (round : GoesRound before now place) →
+    state_of now ≡ state_after (state_of before) round.made
 reached before now place round = ap state_of round.story ∙ state_of_continued before round.made
 
 -- the steps that are left then
@@ -48,7 +50,8 @@ one_made before now later place event round runs left turn more = record {
         | inl before_it ↦ round.turns i other before_it
         | inr last ↦
             let At : ℕ → Type 0 = λ n. IsEventAt before.config.harts n other in
-            subst At (sym (last.0 ∙ round.count)) (subst (λ (e : Event). IsEventAt before.config.harts place e) last.1 turn)
+            subst At (sym (last.0 ∙ round.count))
+            (subst (λ (e : Event). IsEventAt before.config.harts place e) last.1 turn)
       ];
   going = going_more before now round.made event round.story runs round.going;
 }
@@ -143,4 +146,5 @@ turn_made before now later turns hart round runs left own more same =
     let stepped = first_of_turn before now first turns step round refl own runs (omega (arith, left)) refl in
     three_made before first later turns hart stepped (ap is_over (same 1) ∙ runs) (omega (arith, left, first_left)) own
     (more ∙ sym (continued_twice now (step ∷ []) (bus_events hart)))
-    (λ made. ap state_of (continued_twice now (step ∷ []) (take made (bus_events hart))) ∙ same (suc made) ∙ sym (same 1))
+    (λ made. ap state_of (continued_twice now (step ∷ []) (take made (bus_events hart)))
+    ∙ same (suc made) ∙ sym (same 1))

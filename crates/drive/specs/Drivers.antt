@@ -21,8 +21,9 @@ pub record GoesRound (before now : Story) (place : ℕ) : Type 0 where
   pub turns : (i : ℕ) (event : Event) → slice_get made i ≡ Some event → IsEventAt before.config.harts i event
   pub going : (i : ℕ) → i < length made → is_over (state_after (state_of before) (take i made)) ≡ false
 
--- a machine has gone on by turns of drivers, one a hart, and by nothing else: of each hart its turns from 0 on, in order, turn t being its
--- event of kind t mod 4; they are `turns` many of each hart, unless every hart has stopped at the end or no step is left
+-- a machine has gone on by turns of drivers, one a hart, and by nothing else: of each hart its turns from 0 on,
+-- in order, turn t being its event of kind t mod 4; they are `turns` many of each hart, unless every hart has
+-- stopped at the end or no step is left
 pub record MakesTurns (turns : ℕ) (before later : Story) : Type 0 where
   pub made : List Event
   pub by_turns : GoesByTurns turns before later made

@@ -1,5 +1,6 @@
 -- drivers on threads: one a hart, each of which makes its turns in order
-use Rattle.std.specs.Prelude.{ℕ, ◌≡◌, ◌<◌, ◌≤◌, ◌+◌, ◌%◌, ◌==◌, ◌⊎◌, IsTrue, All, false, List, ◌∷◌, filter, length, take, drop, Some, slice_get, slice_index}
+use Rattle.std.specs.Prelude.{ℕ, ◌≡◌, ◌<◌, ◌≤◌, ◌+◌, ◌%◌, ◌==◌, ◌⊎◌, IsTrue, All, false, List, ◌∷◌, filter, length}
+use Rattle.std.specs.Prelude.{take, drop, Some, slice_get, slice_index}
 use mathlib.Core.List.{IsPrefix}
 use Rattle.chronicle.specs.Chronicle.{events}
 use Rattle.el_base.specs.Kinds.{kind_number}
@@ -18,7 +19,8 @@ pub record AreTurns (most : ℕ) (made : List Event) : Type 0 where
   pub few : length made ≤ most
   pub kinds : (turn : ℕ) (event : Event) → slice_get made turn ≡ Some event → kind_number event.kind ≡ turn % 4
 
--- a machine has gone on by these events: of each hart its turns in order, and nothing else; at none of them had every hart stopped
+-- a machine has gone on by these events: of each hart its turns in order, and nothing else; at none
+-- of them had every hart stopped
 pub record GoesByTurns (turns : ℕ) (before later : Story) (made : List Event) : Type 0 where
   pub story : later ≡ continued before made
   pub each : (hart : ℕ) → AreTurns turns (of_hart hart made)
@@ -29,8 +31,8 @@ pub record GoesByTurns (turns : ℕ) (before later : Story) (made : List Event) 
 abbrev pub IsAtItsEnd : Story → Type 0
 IsAtItsEnd story = IsTrue (is_over (state_of story)) ⊎ (left_of story ≡ 0)
 
--- what a lock keeps while drivers run: the machine's story, the number of its events before the first turn, and the number of turns that
--- each driver is to make
+-- what a lock keeps while drivers run: the machine's story, the number of its events before the first turn, and the
+-- number of turns that each driver is to make
 pub record RoundStory : Type 0 where
   pub base : ℕ
   pub turns : ℕ

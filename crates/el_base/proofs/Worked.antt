@@ -20,7 +20,8 @@ lost_to_no_hart : beaten_by (losers_of lost_to) 7 ≡ None
 lost_to_no_hart = refl
 
 -- maps that agree on harts 0 to 7 make one value
-one_value : losers_of lost_to ≡ losers_of (λ h. if h == 7 then Some 9 else if h == 2 then Some 5 else if h == 8 then Some 0 else None)
+one_value : losers_of lost_to
+    ≡ losers_of (λ h. if h == 7 then Some 9 else if h == 2 then Some 5 else if h == 8 then Some 0 else None)
 one_value = refl
 
 -- hart 1 was freed with 15 instructions, and hart 6 with 2

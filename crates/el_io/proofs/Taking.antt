@@ -1,5 +1,6 @@
 -- Taking nothing, and taking some bytes after others.
-use Rattle.std.proofs.Common.{◌≡◌, ℕ, ◌+◌, ◌-◌, ◌≤◌, List, [], ◌∷◌, ◌++◌, length, take, drop, Option, None, Some, refl, ap, subst, sym, ◌∙◌}
+use Rattle.std.proofs.Common.{◌≡◌, ℕ, ◌+◌, ◌-◌, ◌≤◌, List, [], ◌∷◌, ◌++◌, length, take, drop, Option, None, Some, refl}
+use Rattle.std.proofs.Common.{ap, subst, sym, ◌∙◌}
 use Rattle.std.proofs.Common.{append_assoc, append-nil, inl, inr, arith, length-take}
 use Rattle.std.proofs.Math.Seq.{take-add}
 use Rattle.std.proofs.lemmas.List.{take_rest}
@@ -40,7 +41,8 @@ took-of_all before now [] all =
     subst P (sym all) (took-nothing before)
 took-of_all before now (byte ∷ bytes) all = all
 
-all-of_took : (before now : Option (List ℕ)) (bytes : List ℕ) → 1 ≤ length bytes → Took before now bytes → TookAll before now bytes
+all-of_took : (before now : Option (List ℕ)) (bytes : List ℕ) → 1 ≤ length bytes → Took before now bytes →
+    TookAll before now bytes
 all-of_took before now [] some took = absurd (omega (arith, some))
 all-of_took before now (byte ∷ bytes) some took = took
 

@@ -40,7 +40,8 @@ ReadFails shelf name = NextFails (plan shelf) ⊎ (file shelf name ≡ None)
 
 -- what a read answers, but for running out of memory
 abbrev pub ReadAnswers : MemShelf → List ℕ → ℕ → Result (Vec ℕ) ShelfFault → Type 0
-ReadAnswers shelf name limit (Ok bytes) = (¬ ReadFails shelf name) × (file shelf name ≡ Some bytes.items) × (length bytes.items ≤ limit)
+ReadAnswers shelf name limit (Ok bytes) =
+    (¬ ReadFails shelf name) × (file shelf name ≡ Some bytes.items) × (length bytes.items ≤ limit)
 ReadAnswers shelf name limit (Err TooBig) = (¬ ReadFails shelf name) × (limit < length (contents shelf name))
 ReadAnswers shelf name limit (Err Failed) = ReadFails shelf name
 ReadAnswers shelf name limit (Err NoMemory) = Unit {0}

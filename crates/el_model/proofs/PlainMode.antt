@@ -7,9 +7,11 @@ use Rattle.residency.proofs.Laws.Unmarked.{unmarked-cleared, unmarked-empty, unm
 use Rattle.el_base.specs.declared.config.Mode.{Mode}
 use Rattle.el_base.specs.declared.config.Mode.TheVariants.{Plain, Sle, Tlr}
 use Rattle.el_base.specs.declared.events.Event.{Event}
-use Rattle.el_model.specs.Deed.{Arms, Begins, Buffers, Commits, Continues, Deed, DoesWhere, Elides, IsArmed, IsInside, LetsGo, Misses, Rests}
+use Rattle.el_model.specs.Deed.{Arms, Begins, Buffers, Commits, Continues, Deed, DoesWhere, Elides, IsArmed, IsInside}
+use Rattle.el_model.specs.Deed.{LetsGo, Misses, Rests}
 use Rattle.el_model.specs.Deed.{RollsBack, Runs, Waits, hart_after}
-use Rattle.el_model.specs.BusEvent.{Becomes, IsAbsent, IsLetGo, IsSent, LosesIt, Nothing, Places, Sees, Serves, Start, Starts, Takes, having_taken, started}
+use Rattle.el_model.specs.BusEvent.{Becomes, IsAbsent, IsLetGo, IsSent, LosesIt, Nothing, Places, Sees, Serves, Start}
+use Rattle.el_model.specs.BusEvent.{Starts, Takes, having_taken, started}
 use Rattle.el_model.specs.Next.{next, step_turn}
 use Rattle.el_model.specs.Plain.{after_candidate, candidate_of, if_candidate, may_elide, watched}
 use Rattle.el_model.specs.Quiet.{IsPlain}
@@ -35,21 +37,31 @@ still_plain : (old new : Hart) → new.section ≡ old.section → new.armed ≡
     new.predictor.watch ≡ old.predictor.watch → has_marks new.cache ≡ false →
     IsPlain old → IsPlain new
 still_plain old new section armed watch unmarked plain =
-    record { section = section ∙ plain.section; armed = armed ∙ plain.armed; unmarked = unmarked; watch = watch ∙ plain.watch }
+    record {
+      section = section ∙ plain.section;
+      armed = armed ∙ plain.armed;
+      unmarked = unmarked;
+      watch = watch ∙ plain.watch;
+    }
 
 try_plain : (hart : Hart) (last : Bool) → IsPlain hart →
     IsPlain (if last then record hart { tries = 0; fallback = true } else record hart { tries = hart.tries + 1 })
-try_plain hart true plain = still_plain hart (record hart { tries = 0; fallback = true }) refl refl refl plain.unmarked plain
-try_plain hart false plain = still_plain hart (record hart { tries = hart.tries + 1 }) refl refl refl plain.unmarked plain
+try_plain hart true plain =
+    still_plain hart (record hart { tries = 0; fallback = true }) refl refl refl plain.unmarked plain
+try_plain hart false plain =
+    still_plain hart (record hart { tries = hart.tries + 1 }) refl refl refl plain.unmarked plain
 
 out_plain : (hart : Hart) → IsPlain hart → IsPlain (out_of_section hart)
-out_plain hart plain = record { section = refl; armed = refl; unmarked = unmarked-cleared hart.cache; watch = plain.watch }
+out_plain hart plain =
+    record { section = refl; armed = refl; unmarked = unmarked-cleared hart.cache; watch = plain.watch }
 
 beaten_plain : (mode : Mode) (winner : Option Stamp) (hart : Hart) → IsPlain hart → IsPlain (beaten mode winner hart)
 beaten_plain Tlr winner hart plain =
     record { section = refl; armed = refl; unmarked = unmarked-cleared hart.cache; watch = plain.watch }
-beaten_plain Sle winner hart plain = try_plain (out_of_section hart) (hart.tries + 1 == most_tries) (out_plain hart plain)
-beaten_plain Plain winner hart plain = try_plain (out_of_section hart) (hart.tries + 1 == most_tries) (out_plain hart plain)
+beaten_plain Sle winner hart plain =
+    try_plain (out_of_section hart) (hart.tries + 1 == most_tries) (out_plain hart plain)
+beaten_plain Plain winner hart plain =
+    try_plain (out_of_section hart) (hart.tries + 1 == most_tries) (out_plain hart plain)
 
 claim_plain : (section : Option Section) (request : Request) (hart : Hart) → section ≡ None → IsPlain hart →
     IsPlain (with_claim (is_some section) request hart)
@@ -65,7 +77,8 @@ serving_plain state request hart true plain =
 serving_plain state request hart false plain =
     still_plain hart _ refl refl refl (others_unmarked _ request.need hart.cache request.line plain.unmarked) plain
 
-taken_plain : (message : Message) (others : List Message) (hart : Hart) → IsPlain hart → IsPlain (having_taken message others hart)
+taken_plain : (message : Message) (others : List Message) (hart : Hart) → IsPlain hart →
+    IsPlain (having_taken message others hart)
 taken_plain (Marker sender) others hart plain = still_plain hart _ refl refl refl plain.unmarked plain
 taken_plain (Probe origin) others hart plain = still_plain hart _ refl refl refl plain.unmarked plain
 
@@ -73,10 +86,12 @@ started_plain : (state : ModelState) (by : ℕ) (start : Start) (h : ℕ) (hart 
     IsPlain (started state by start h hart)
 started_plain state by Nothing h hart plain = plain
 started_plain state by (Places request place) h hart plain =
-    by_test IsPlain (h == request.hart) (record hart { raised = None }) hart (λ own. still_plain hart _ refl refl refl plain.unmarked plain) (λ other. plain)
+    by_test IsPlain (h == request.hart) (record hart { raised = None }) hart
+    (λ own. still_plain hart _ refl refl refl plain.unmarked plain) (λ other. plain)
 started_plain state by (Serves request) h hart plain = serving_plain state request hart (h == request.hart) plain
 started_plain state by (Takes message others) h hart plain =
-    by_test IsPlain (h == by) (having_taken message others hart) hart (λ own. taken_plain message others hart plain) (λ other. plain)
+    by_test IsPlain (h == by) (having_taken message others hart) hart (λ own. taken_plain message others hart plain)
+    (λ other. plain)
 
 becomes_plain : (state : ModelState) (by : ℕ) (start : Start) (h : ℕ) {lost : Option ℕ} {hart : Hart} →
     IsPlain (hart_of state h) →
@@ -103,8 +118,8 @@ watched_none : (state : ModelState) (h : ℕ) (predictor : Predictor) (watch : O
 watched_none state h predictor None none = refl
 watched_none state h predictor (Some watch) none = absurd (cc)
 
-candidate_plain : (pc : Option ℕ) (had_watch : Bool) (candidate : Option Swap) (hart : Hart) → candidate ≡ None → IsPlain hart →
-    IsPlain (after_candidate pc had_watch candidate hart)
+candidate_plain : (pc : Option ℕ) (had_watch : Bool) (candidate : Option Swap) (hart : Hart) → candidate ≡ None →
+    IsPlain hart → IsPlain (after_candidate pc had_watch candidate hart)
 candidate_plain pc had_watch None hart none plain = plain
 candidate_plain pc had_watch (Some swap) hart none plain = absurd (cc)
 
@@ -120,7 +135,8 @@ no_section state h section live plain = absurd (none_some (sym plain.section ∙
     none_some : {A : Type 0} {x : A} → None ≡ Some x → ⊥
     none_some same = absurd (cc)
 
-not_armed : {X : Type 0} (state : ModelState) (h : ℕ) (armed : Armed) → IsArmed state h armed → IsPlain (hart_of state h) → X
+not_armed : {X : Type 0} (state : ModelState) (h : ℕ) (armed : Armed) → IsArmed state h armed →
+    IsPlain (hart_of state h) → X
 not_armed state h armed is plain = absurd (none_some (sym plain.armed ∙ is.armed_is))
   where
     none_some : {A : Type 0} {x : A} → None ≡ Some x → ⊥
@@ -130,23 +146,29 @@ deed_plain : (state : ModelState) (h : ℕ) (deed : Deed) → state.config.mode 
     IsPlain (hart_of state h) → IsPlain (hart_after state h deed (hart_of state h))
 deed_plain state h Rests mode where_it plain = plain
 deed_plain state h Waits mode where_it plain = plain
-deed_plain state h (Misses line need) mode where_it plain = still_plain (hart_of state h) _ refl refl refl plain.unmarked plain
+deed_plain state h (Misses line need) mode where_it plain =
+    still_plain (hart_of state h) _ refl refl refl plain.unmarked plain
 deed_plain state h (Runs touch) mode where_it plain =
     let hart = hart_of state h in
     candidate_plain _ _ (candidate_of state h) _ (no_candidate state.config.mode (next_exchange state.committed h) mode)
-    (still_plain hart _ refl refl (ap (λ predictor. predictor.watch) (watched_none state h hart.predictor hart.predictor.watch plain.watch))
+    (still_plain hart _ refl refl
+    (ap (λ predictor. predictor.watch) (watched_none state h hart.predictor hart.predictor.watch plain.watch))
     (touch_unmarked hart.cache touch plain.unmarked) plain)
-deed_plain state h (Begins swap) mode may plain = absurd (not_elided state.config.mode (hart_of state h) _ mode may.elidable.trusted)
-deed_plain state h (Buffers section touch) mode may plain = no_section state h section may.goes.goes_on.is_short.inside plain
+deed_plain state h (Begins swap) mode may plain =
+    absurd (not_elided state.config.mode (hart_of state h) _ mode may.elidable.trusted)
+deed_plain state h (Buffers section touch) mode may plain =
+    no_section state h section may.goes.goes_on.is_short.inside plain
 deed_plain state h (Commits section) mode may plain = no_section state h section may.goes_on.is_short.inside plain
 deed_plain state h (RollsBack section cause) mode must plain =
     no_section state h section (is_rolled state h section cause must) plain
-deed_plain state h (Arms word) mode may plain = absurd (not_elided state.config.mode (hart_of state h) _ mode may.reserving.trusted)
+deed_plain state h (Arms word) mode may plain =
+    absurd (not_elided state.config.mode (hart_of state h) _ mode may.reserving.trusted)
 deed_plain state h (Elides armed swap) mode may plain = not_armed state h armed may.is_armed plain
 deed_plain state h (Continues armed) mode may plain = not_armed state h armed may.is_armed plain
 deed_plain state h (LetsGo armed) mode must plain = not_armed state h armed must.is_armed plain
 
-step_plain : (state : ModelState) (h : ℕ) → state.config.mode ≡ Plain → All IsPlain state → All IsPlain (step_turn state h).state
+step_plain : (state : ModelState) (h : ℕ) → state.config.mode ≡ Plain → All IsPlain state →
+    All IsPlain (step_turn state h).state
 step_plain state h mode all =
     let step = step_deed state h in
     rw (step.turn_is)

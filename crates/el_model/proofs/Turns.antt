@@ -3,7 +3,8 @@ use Rattle.std.proofs.Common.{◌≡◌, ◌∙◌, ℕ, Option, Some, None, ref
 use Rattle.chronicle.specs.Serial.{taking_effect}
 use Rattle.el_model.specs.Armed as rules
 use Rattle.el_model.specs.Armed.{ArmedRule, armed_rule, armed_turn, by_armed_rule}
-use Rattle.el_model.specs.InSection.{SectionRule, Buffers, Commits, Misses, RollsBack, by_section_rule, section_rule, section_turn}
+use Rattle.el_model.specs.InSection.{SectionRule, Buffers, Commits, Misses, RollsBack, by_section_rule, section_rule}
+use Rattle.el_model.specs.InSection.{section_turn}
 use Rattle.el_model.specs.Laws.{EventsTakeEffect}
 use Rattle.el_model.specs.Next.{going_turn, outside_turn, stalled, status_turn, step_turn}
 use Rattle.el_model.specs.Plain as plain
@@ -27,7 +28,8 @@ plain_effect state h (plain.Misses line need) = refl
 plain_effect state h (Begins swap) = refl
 plain_effect state h (plain.Arms word) = refl
 
-armed_effect : (state : ModelState) (h : ℕ) (armed : Armed) (rule : ArmedRule) → TakesEffect state h (by_armed_rule state h armed rule)
+armed_effect : (state : ModelState) (h : ℕ) (armed : Armed) (rule : ArmedRule) →
+    TakesEffect state h (by_armed_rule state h armed rule)
 unfolding by_armed_rule
 armed_effect state h armed (rules.Elides swap) = refl
 armed_effect state h armed rules.Continues = refl
@@ -46,14 +48,16 @@ unfolding plain_turn armed_turn
 outside_effect state h None = plain_effect state h (plain_rule state h)
 outside_effect state h (Some armed) = armed_effect state h armed (armed_rule state h armed)
 
-going_effect : (state : ModelState) (h : ℕ) (section : Option Section) → TakesEffect state h (going_turn state h section)
+going_effect : (state : ModelState) (h : ℕ) (section : Option Section) →
+    TakesEffect state h (going_turn state h section)
 unfolding section_turn
 going_effect state h None = outside_effect state h (armed_of state h)
 going_effect state h (Some section) = section_effect state h section (section_rule state h section)
 
 status_effect : (state : ModelState) (h : ℕ) (status : HartStatus) → TakesEffect state h (status_turn state h status)
 status_effect state h Running =
-    by_test (TakesEffect state h) (has_request state h) (stalled state) (going_turn state h (section_of state h)) (λ waits. refl)
+    by_test (TakesEffect state h) (has_request state h) (stalled state)
+    (going_turn state h (section_of state h)) (λ waits. refl)
     (λ goes. going_effect state h (section_of state h))
 status_effect state h (Exited code) = refl
 status_effect state h (Trapped cause pc) = refl

@@ -9,7 +9,8 @@ use Rattle.el_base.specs.declared.outcomes.Outcome.TheVariants as outcomes
 use Rattle.el_model.specs.Conflicts.{is_wanted_to_write, is_write}
 use Rattle.el_model.specs.Plain.{armed_count, began_hart}
 use Rattle.el_model.specs.State.{Armed, Hart, ModelState, Turn, each_hart, hart_of, with_hart}
-use Rattle.el_model.specs.Upcoming.{Swap, calls_or_stops, changes_word, is_store_conditional, next_conditional, next_touch}
+use Rattle.el_model.specs.Upcoming.{Swap, calls_or_stops, changes_word, is_store_conditional, next_conditional}
+use Rattle.el_model.specs.Upcoming.{next_touch}
 use Rattle.rv_flat.specs.FlatState.{FlatState, view_of}
 use Rattle.rv_flat.specs.Laws.{next_insn}
 use Rattle.rv_flat.specs.Run.{alone, run}
@@ -49,7 +50,8 @@ abbrev pub exchange_rule : ModelState → ℕ → Armed → Option Swap → Arme
 exchange_rule state h armed None = quiet_rule state h armed
 exchange_rule state h armed (Some swap) = if completes state h armed swap then Elides swap else LetsGo
 
--- an SC that changes the word completes the acquire; what touches no memory is kept private; anything else lets the section go
+-- an SC that changes the word completes the acquire; what touches no memory is kept private;
+-- anything else lets the section go
 abbrev pub armed_rule : ModelState → ℕ → Armed → ArmedRule
 armed_rule state h armed = exchange_rule state h armed (next_conditional (shown_armed state h armed) h)
 
@@ -73,7 +75,8 @@ by_armed_rule state h armed Continues = record {
 }
 by_armed_rule state h armed LetsGo = record {
   state =
-      record (with_hart state h (let_go_hart (view_of state.committed h).pc (record (hart_of state h) { held_line = None }))) {
+      record (with_hart state h
+      (let_go_hart (view_of state.committed h).pc (record (hart_of state h) { held_line = None }))) {
         committed = alone state.committed h armed.count;
       };
   outcome = outcomes.LetGo armed.count;

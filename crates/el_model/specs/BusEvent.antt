@@ -1,5 +1,6 @@
 -- an event of the bus, told once: how it starts, and what becomes of each hart from there, one change after another
-use Rattle.std.specs.Prelude.{ℕ, ◌≡◌, ◌≢◌, ◌<◌, ◌≤◌, ◌==◌, true, false, List, ◌∷◌, length, Option, None, Some, is_some, if◌then◌else◌}
+use Rattle.std.specs.Prelude.{ℕ, ◌≡◌, ◌≢◌, ◌<◌, ◌≤◌, ◌==◌, true, false, List, ◌∷◌, length, Option, None, Some, is_some}
+use Rattle.std.specs.Prelude.{if◌then◌else◌}
 use Rattle.bus_order.specs.Order.{Request, appended, in_front_of, removed, tail_of}
 use Rattle.defer_list.specs.HartSet.{has, included}
 use Rattle.el_base.specs.Losers.{beaten_by, losers_of}
@@ -69,7 +70,8 @@ order_after state (Places request place) = order_at state request place
 order_after state (Serves request) = removed state.order request.hart
 order_after state (Takes message others) = state.order
 
--- the head that is met then, if one is, the state in which it lets go the armed sections that it meets, and the one in which it is faced
+-- the head that is met then, if one is, the state in which it lets go the armed sections that it meets,
+-- and the one in which it is faced
 abbrev pub faced_head : ModelState → Start → Option Request
 faced_head state Nothing = None
 faced_head state (Places request InFront) = Some request
@@ -146,20 +148,22 @@ pub data LosesWhere (state : ModelState) (by : ℕ) : Start → ℕ → ℕ → 
       fate_at (as_faced state by start head) head h ≡ LosesTo winner →
       LosesWhere state by start h winner (winning_stamp (as_faced state by start head) head.line winner)
   AtProbe : (origin : ℕ) (others : List Message) (request : Request) → ordered_of state origin ≡ Some request →
-      loses_to_origin state by (Some request) ≡ true → LosesWhere state by (Takes (Probe origin) others) by origin request.stamp
+      loses_to_origin state by (Some request) ≡ true →
+      LosesWhere state by (Takes (Probe origin) others) by origin request.stamp
 
 -- what becomes of a hart, and to whom its section is lost
 pub data Becomes (state : ModelState) (by : ℕ) (start : Start) (h : ℕ) : Option ℕ → Hart → Type 0 where
   IsAbsent : length state.harts ≤ h → Becomes state by start h None (hart_of state h)
   Starts : h < length state.harts → Becomes state by start h None (started state by start h (hart_of state h))
-  IsSent : (message : Message) (lost : Option ℕ) (hart : Hart) → IsPosted state by start h message → Becomes state by start h lost hart →
+  IsSent : (message : Message) (lost : Option ℕ) (hart : Hart) → IsPosted state by start h message →
+      Becomes state by start h lost hart →
       Becomes state by start h lost (record hart { mail = posted hart.mail message })
   IsLetGo : (head : Request) (hart : Hart) → Frees state by start h head → Becomes state by start h None hart →
       Becomes state by start h None (let_go_hart (view_of state.committed h).pc hart)
-  Sees : (head : Request) (lost : Option ℕ) (hart : Hart) → Defers state by start h head → Becomes state by start h lost hart →
-      Becomes state by start h lost (see head.stamp hart)
-  LosesIt : (winner : ℕ) (stamp : Option Stamp) (hart : Hart) → LosesWhere state by start h winner stamp → Becomes state by start h None hart →
-      Becomes state by start h (Some winner) (beaten state.config.mode stamp hart)
+  Sees : (head : Request) (lost : Option ℕ) (hart : Hart) → Defers state by start h head →
+      Becomes state by start h lost hart → Becomes state by start h lost (see head.stamp hart)
+  LosesIt : (winner : ℕ) (stamp : Option Stamp) (hart : Hart) → LosesWhere state by start h winner stamp →
+      Becomes state by start h None hart → Becomes state by start h (Some winner) (beaten state.config.mode stamp hart)
 
 -- how an event of the bus may come out
 abbrev pub IsOfBus : Outcome → Type 0
@@ -170,8 +174,8 @@ IsOfBus (outcomes.Blocked why by) = Unit {0}
 IsOfBus (outcomes.Delivered losers) = Unit {0}
 IsOfBus _ = ⊥
 
--- what an event of the bus is: a start, and what becomes of each hart from there; what is committed stays, but for the instructions of
--- the harts that it lets go
+-- what an event of the bus is: a start, and what becomes of each hart from there; what is committed stays, but for the
+-- instructions of the harts that it lets go
 pub record IsBusEvent (state : ModelState) (by : ℕ) (turn : Turn) : Type 0 where
   pub start : Start
   pub where_it : StartsWhere state by start

@@ -10,7 +10,8 @@ use Rattle.el_base.specs.declared.hart_id.HartId.{HartId}
 use Rattle.el_base.specs.declared.losers.Losers.{Losers}
 use Rattle.el_base.specs.declared.outcomes.Need.{Need}
 use Rattle.el_base.specs.declared.outcomes.Outcome.{Outcome}
-use Rattle.el_base.specs.declared.outcomes.Outcome.TheVariants.{Idle, Stalled, Missed, Ran, Began, Buffered, Committed, RolledBack, Ordered, Served}
+use Rattle.el_base.specs.declared.outcomes.Outcome.TheVariants.{Idle, Stalled, Missed, Ran, Began, Buffered, Committed}
+use Rattle.el_base.specs.declared.outcomes.Outcome.TheVariants.{RolledBack, Ordered, Served}
 use Rattle.el_base.specs.declared.outcomes.Outcome.TheVariants.{Blocked, Delivered, Armed, LetGo}
 use Rattle.el_base.specs.declared.outcomes.Why.{Why}
 use Rattle.mail.specs.Mailbox.{Message}
@@ -84,11 +85,13 @@ NothingToDo state event =
 
 -- an instruction misses a line, outside or inside of a section
 pub record MissesLine (state : ModelState) (event : Event) (line : ℕ) (need : Need) : Type 0 where
-  pub by_rule : GoesOutside state event (outside.Misses line need) ⊎ ((section : Section) × GoesInside state event section (inside.Misses line need))
+  pub by_rule : GoesOutside state event (outside.Misses line need)
+      ⊎ ((section : Section) × GoesInside state event section (inside.Misses line need))
 
 -- a section begins: at a swap, or at the SC of an armed section
 pub record BeginsSection (state : ModelState) (event : Event) (swap : Swap) : Type 0 where
-  pub by_rule : GoesOutside state event (outside.Begins swap) ⊎ ((armed : states.Armed) × GoesArmed state event armed (Elides swap))
+  pub by_rule : GoesOutside state event (outside.Begins swap)
+      ⊎ ((armed : states.Armed) × GoesArmed state event armed (Elides swap))
 
 -- one more instruction is kept private, of a live section or of an armed one
 pub record KeepsPrivate (state : ModelState) (event : Event) : Type 0 where
@@ -134,13 +137,15 @@ pub record TakesMessage (state : ModelState) (event : Event) (losers : Losers) :
 abbrev pub ComesWhere : ModelState → Event → Outcome → Type 0
 ComesWhere state event Idle = NothingToDo state event
 ComesWhere state event Stalled = Waits state event
-ComesWhere state event (Missed line need) = (number : ℕ) × (line ≡ line_addr number) × MissesLine state event number need
+ComesWhere state event (Missed line need) =
+    (number : ℕ) × (line ≡ line_addr number) × MissesLine state event number need
 ComesWhere state event Ran = (touch : Option Touch) × GoesOutside state event (outside.Runs touch)
 ComesWhere state event Began = (swap : Swap) × BeginsSection state event swap
 ComesWhere state event Buffered = KeepsPrivate state event
 ComesWhere state event (Committed count) =
     (section : Section) × (count ≡ section.count + 1) × GoesInside state event section inside.Commits
-ComesWhere state event (RolledBack cause) = (section : Section) × GoesInside state event section (inside.RollsBack cause)
+ComesWhere state event (RolledBack cause) =
+    (section : Section) × GoesInside state event section (inside.RollsBack cause)
 ComesWhere state event (Ordered losers freed) = TakesPlace state event losers freed
 ComesWhere state event (Served losers freed) = IsServed state event losers freed
 ComesWhere state event (Blocked why by) = IsBlocked state event why by

@@ -1,5 +1,6 @@
 -- where requests meet sections, and who wins
-use Rattle.std.specs.Prelude.{ℕ, Bool, true, false, ◌&&◌, ◌||◌, List, [], ◌∷◌, Option, None, Some, is_some, ◌==◌, not, if◌then◌else◌}
+use Rattle.std.specs.Prelude.{ℕ, Bool, true, false, ◌&&◌, ◌||◌, List, [], ◌∷◌, Option, None, Some, is_some, ◌==◌, not}
+use Rattle.std.specs.Prelude.{if◌then◌else◌}
 use Rattle.bus_order.specs.Order.{Request}
 use Rattle.residency.specs.Cache.{has_bit, write_bit}
 use Rattle.defer_list.specs.HartSet.{has}
@@ -89,8 +90,8 @@ least_such test stamp [] = None
 least_such test stamp (h ∷ others) =
     if test h then earlier stamp (Some h) (least_such test stamp others) else least_such test stamp others
 
--- of the origins that a hart was told of and that are ordered on a line with a stamp less than the one of its section, the
--- one with the least stamp
+-- of the origins that a hart was told of and that are ordered on a line with a stamp less than the one of its
+-- section, the one with the least stamp
 abbrev pub told_winner : ModelState → Hart → ℕ → Option ℕ
 told_winner state hart line =
     least_such

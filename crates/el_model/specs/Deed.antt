@@ -14,8 +14,10 @@ use Rattle.el_model.specs.Conflicts.{is_wanted, is_wanted_to_write}
 use Rattle.el_model.specs.InSection.{buffered_hart, committed_hart, is_covered, is_full, shown_in}
 use Rattle.el_model.specs.Plain.{arming_hart, began_hart, may_elide, missed_hart, ran_hart}
 use Rattle.el_model.specs.RollBack.{rolled_back}
-use Rattle.el_model.specs.State.{Armed, Hart, ModelState, Section, Turn, armed_of, cache_of, has_request, hart_of, section_of, with_hart}
-use Rattle.el_model.specs.Upcoming.{Swap, Touch, calls_or_stops, changes_word, is_release, next_conditional, next_reserved, next_swap, next_touch}
+use Rattle.el_model.specs.State.{Armed, Hart, ModelState, Section, Turn, armed_of, cache_of, has_request, hart_of}
+use Rattle.el_model.specs.State.{section_of, with_hart}
+use Rattle.el_model.specs.Upcoming.{Swap, Touch, calls_or_stops, changes_word, is_release, next_conditional}
+use Rattle.el_model.specs.Upcoming.{next_reserved, next_swap, next_touch}
 use Rattle.el_model.specs.Upcoming.{stores_to_word}
 use Rattle.moesi.specs.Letters.{may_of, may_read}
 use Rattle.rv_alu.specs.declared.view.HartStatus.TheVariants.{Running}
@@ -156,7 +158,8 @@ pub record MayElide (state : ModelState) (h : ℕ) (armed : Armed) (swap : Swap)
   pub next : next_conditional (shown_armed state h armed) h ≡ Some swap
   pub completing : completes state h armed swap ≡ true
 
--- an armed section goes on where the next instruction touches no memory, is no SC and neither calls nor stops, and it may grow
+-- an armed section goes on where the next instruction touches no memory, is no SC and neither
+-- calls nor stops, and it may grow
 pub record MayContinue (state : ModelState) (h : ℕ) (armed : Armed) : Type 0 where
   pub is_armed : IsArmed state h armed
   pub quiet : is_quiet (shown_armed state h armed) h ≡ true
@@ -165,7 +168,8 @@ pub record MayContinue (state : ModelState) (h : ℕ) (armed : Armed) : Type 0 w
 -- and is let go where neither holds
 pub record MustLetGo (state : ModelState) (h : ℕ) (armed : Armed) : Type 0 where
   pub is_armed : IsArmed state h armed
-  pub incomplete : (swap : Swap) → next_conditional (shown_armed state h armed) h ≡ Some swap → completes state h armed swap ≡ false
+  pub incomplete : (swap : Swap) → next_conditional (shown_armed state h armed) h ≡ Some swap →
+      completes state h armed swap ≡ false
   pub ends : (is_quiet (shown_armed state h armed) h && may_grow state armed) ≡ false
 
 -- outside of a section an instruction misses what it may not touch, and an acquire the line of its word
@@ -184,8 +188,8 @@ pub record MissesOutside (state : ModelState) (h line : ℕ) (need : Need) : Typ
   pub outside : IsOutside state h
   pub why : TouchMisses state h line need ⊎ AcquireMisses state h line need
 
--- a section goes on where it is not too long and its next instruction neither calls nor stops; and further where that is not its
--- release and stores not to its word
+-- a section goes on where it is not too long and its next instruction neither calls nor stops; and further where that
+-- is not its release and stores not to its word
 pub record IsShort (state : ModelState) (h : ℕ) (section : Section) : Type 0 where
   pub inside : IsInside state h section
   pub short : (section.count == state.config.long) ≡ false

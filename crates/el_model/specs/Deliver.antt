@@ -1,5 +1,6 @@
 -- a hart takes the oldest message of its mailbox
-use Rattle.std.specs.Prelude.{ℕ, Bool, false, ◌&&◌, List, [], ◌∷◌, map, filter, Option, None, Some, is_some, not, ◌==◌, if◌then◌else◌}
+use Rattle.std.specs.Prelude.{ℕ, Bool, false, ◌&&◌, List, [], ◌∷◌, map, filter, Option, None, Some, is_some, not, ◌==◌}
+use Rattle.std.specs.Prelude.{if◌then◌else◌}
 use Rattle.bus_order.specs.Order.{Request}
 use Rattle.defer_list.specs.HartSet.{has, included}
 use Rattle.el_base.specs.Losers.{losers_of}
@@ -7,7 +8,8 @@ use Rattle.el_base.specs.declared.losers.Losers.{Losers}
 use Rattle.el_base.specs.declared.outcomes.Outcome.TheVariants.{Delivered}
 use Rattle.el_model.specs.Conflicts.{retains, stamp_in}
 use Rattle.el_model.specs.RollBack.{beaten}
-use Rattle.el_model.specs.State.{Hart, ModelState, Turn, each_hart, hart_of, idle, numbers_of, ordered_of, ordered_on, post_all, with_hart}
+use Rattle.el_model.specs.State.{Hart, ModelState, Turn, each_hart, hart_of, idle, numbers_of, ordered_of, ordered_on}
+use Rattle.el_model.specs.State.{post_all, with_hart}
 use Rattle.mail.specs.Mailbox.{Message, Marker, Probe, posted}
 use Rattle.stamp.specs.Stamps.{is_before}
 
@@ -23,7 +25,8 @@ one_lost loser winner = losers_of (λ h. if h == loser then Some winner else Non
 abbrev pub post_to : ModelState → ℕ → List Message → ModelState
 post_to state h messages = with_hart state h (post_all (hart_of state h) messages)
 
--- the origins that a hart was told of and that are ordered on the line of its own ordered request, ascending, but for one hart
+-- the origins that a hart was told of and that are ordered on the line of its own ordered
+-- request, ascending, but for one hart
 abbrev pub told_on : ModelState → ℕ → ℕ → Option Request → List ℕ
 told_on state h but None = []
 told_on state h but (Some own) =
@@ -50,8 +53,8 @@ told_of state h origin request =
     let hart = record (hart_of state h) { told = included (hart_of state h).told origin } in
     if loses_to_origin state h request then beaten state.config.mode (stamp_in request) hart else hart
 
--- the harts to which a probe is forwarded: those before the hart but the origin itself, where the hart has an ordered request on
--- the line of the origin's
+-- the harts to which a probe is forwarded: those before the hart but the origin itself, where the hart has an ordered
+-- request on the line of the origin's
 abbrev pub forwards_on : ModelState → ℕ → ℕ → Option Request → ℕ → Bool
 forwards_on state h origin None g = false
 forwards_on state h origin (Some request) g =

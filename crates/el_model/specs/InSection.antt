@@ -40,7 +40,8 @@ abbrev pub is_full : ModelState → ℕ → Need → Bool
 is_full state h Read = false
 is_full state h Write = write_bits_of (cache_of state h) == state.config.lines
 
--- a line without the bit: it must be one that may be written beside the others, have room, be permitted and be wanted by nobody else
+-- a line without the bit: it must be one that may be written beside the others, have room, be
+-- permitted and be wanted by nobody else
 abbrev pub bit_rule : ModelState → ℕ → Touch → SectionRule
 bit_rule state h touch =
     if is_covered (cache_of state h) touch.line touch.need then Buffers (Some touch)
@@ -54,7 +55,8 @@ abbrev pub touch_rule : ModelState → ℕ → Option Touch → SectionRule
 touch_rule state h None = Buffers None
 touch_rule state h (Some touch) = bit_rule state h touch
 
--- a section ends at its length, at a call or a stop, at its release, and at another store to its word; any other instruction is buffered
+-- a section ends at its length, at a call or a stop, at its release, and at another store to its word;
+-- any other instruction is buffered
 abbrev pub section_rule : ModelState → ℕ → Section → SectionRule
 section_rule state h section =
     let shown = shown_in state h section in

@@ -19,8 +19,8 @@ use Rattle.el_model.specs.State.{ModelState, begin, hart_of}
 use Rattle.rv_flat.specs.FlatState.{start}
 use Rattle.rv_flat.specs.Run.{run}
 
--- whatever the events, the committed state is that of one run of the program on plain shared memory, in the serial order of their
--- history
+-- whatever the events, the committed state is that of one run of the program on plain shared memory, in
+-- the serial order of their history
 abbrev pub CommitsInSerialOrder : Type 0
 CommitsInSerialOrder =
     (program : Program) (config : Config) (events : List Event) →
@@ -31,7 +31,8 @@ CommitsInSerialOrder =
 abbrev pub EventsTakeEffect : Type 0
 EventsTakeEffect =
     (state : ModelState) (event : Event) →
-    (next state event).state.committed ≡ run state.committed (taking_effect event.hart.number (next state event).outcome)
+    (next state event).state.committed ≡ run state.committed
+    (taking_effect event.hart.number (next state event).outcome)
 
 -- where there was nothing to do, nothing has changed
 abbrev pub IdleChangesNothing : Type 0
@@ -44,12 +45,12 @@ OutcomesComeByTheirRules =
     (state : ModelState) (event : Event) (outcome : Outcome) →
     ((next state event).outcome ≡ outcome) ↔ ComesWhere state event outcome
 
--- where an event of the bus names no winner for a hart, its section, tries and flag are as they were, and where it names one they are
--- those after a loss
+-- where an event of the bus names no winner for a hart, its section, tries and flag are as they were, and where it
+-- names one they are those after a loss
 abbrev pub LosersAreRestored : Type 0
 LosersAreRestored =
-    (state : ModelState) (event : Event) (g : ℕ) → HartsAreNumbered state → event.kind ≢ kinds.Step → g < length state.harts →
-    standing_of (hart_of (next state event).state g)
+    (state : ModelState) (event : Event) (g : ℕ) → HartsAreNumbered state → event.kind ≢ kinds.Step →
+    g < length state.harts → standing_of (hart_of (next state event).state g)
     ≡ restored state.config.mode (winner_over (next state event).outcome g) (standing_of (hart_of state g))
 
 -- a step is one deed of its hart, where the rule of the deed says so, and changes nothing else
@@ -57,12 +58,15 @@ abbrev pub StepsAreDeeds : Type 0
 StepsAreDeeds =
     (state : ModelState) (event : Event) → event.kind ≡ kinds.Step → IsDeed state event.hart.number (next state event)
 
--- an event of the bus is a start and what becomes of each hart from there, one change after another, and changes nothing else
+-- an event of the bus is a start and what becomes of each hart from there, one change after
+-- another, and changes nothing else
 abbrev pub BusEventsAreToldOnce : Type 0
 BusEventsAreToldOnce =
-    (state : ModelState) (event : Event) → event.kind ≢ kinds.Step → IsBusEvent state event.hart.number (next state event)
+    (state : ModelState) (event : Event) → event.kind ≢ kinds.Step →
+    IsBusEvent state event.hart.number (next state event)
 
--- in a mode without stamps, from the start on, no hart has a message, an origin that it was told of, a hart before it, or an attempt
+-- in a mode without stamps, from the start on, no hart has a message, an origin that it was told of,
+-- a hart before it, or an attempt
 abbrev pub StamplessStaysSilent : Type 0
 StamplessStaysSilent =
     (program : Program) (config : Config) (events : List Event) → has_stamps config.mode ≡ false →
@@ -71,4 +75,5 @@ StamplessStaysSilent =
 -- in the plain mode, from the start on, no hart has a section, a bit, or a watch either
 abbrev pub PlainStaysPlain : Type 0
 PlainStaysPlain =
-    (program : Program) (config : Config) (events : List Event) → config.mode ≡ Plain → AllPlain (after program config events)
+    (program : Program) (config : Config) (events : List Event) → config.mode ≡ Plain →
+    AllPlain (after program config events)

@@ -34,7 +34,8 @@ abbrev pub marking : ModelState → ℕ → Option Request → ModelState
 marking state h None = state
 marking state h (Some former) = marked_from state.config.mode state h former.hart
 
--- where a request goes: before all requests of its line, where the hart's own section has a bit there; behind them; or to a line that has none
+-- where a request goes: before all requests of its line, where the hart's own section has a bit there; behind
+-- them; or to a line that has none
 pub data Place : Type 0 where
   InFront : Place
   Behind : Place
@@ -54,14 +55,16 @@ placed_in_front state request =
 abbrev pub placed_last : ModelState → Request → ModelState
 placed_last state request = record (unraised state request.hart) { order = appended state.order request }
 
--- the state as a request that is the head of its line from now on is faced: in front, the former head of its line has a marker
+-- the state as a request that is the head of its line from now on is faced: in front, the
+-- former head of its line has a marker
 abbrev pub before_face : ModelState → Request → Place → ModelState
 before_face state request InFront =
     marking (placed_in_front state request) request.hart (head_of state request.line)
 before_face state request Behind = marked_by (placed_last state request) (tail_of state.order request.line) request.hart
 before_face state request Alone = placed_last state request
 
--- a request takes its place, and is faced unless it is behind others of its line, of which the last has sent it a marker
+-- a request takes its place, and is faced unless it is behind others of its line, of
+-- which the last has sent it a marker
 unfoldable pub placed : ModelState → Request → Place → ModelState
 placed state request InFront = met (before_face state request InFront) request
 placed state request Behind = before_face state request Behind

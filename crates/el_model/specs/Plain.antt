@@ -1,5 +1,6 @@
 -- a step of a hart without a live or armed section, which runs and waits for no request
-use Rattle.std.specs.Prelude.{ℕ, suc, Bool, true, false, ◌&&◌, List, Option, None, Some, is_some, not, nat_le, if◌then◌else◌}
+use Rattle.std.specs.Prelude.{ℕ, suc, Bool, true, false, ◌&&◌, List, Option, None, Some, is_some, not, nat_le}
+use Rattle.std.specs.Prelude.{if◌then◌else◌}
 use Rattle.residency.specs.Cache.{letter_of, lettered, marked, touched}
 use Rattle.residency.specs.Residency.{Way}
 use Rattle.el_base.specs.Line.{line_number}
@@ -12,7 +13,8 @@ use Rattle.el_base.specs.declared.outcomes.Outcome.TheVariants as outcomes
 use Rattle.el_model.specs.Attempts.{open_attempt}
 use Rattle.el_model.specs.Conflicts.{is_wanted_to_write}
 use Rattle.el_model.specs.State.{Armed, Hart, ModelState, Turn, cache_of, hart_of, with_hart}
-use Rattle.el_model.specs.Upcoming.{Swap, Touch, calls_or_stops, changes_word, is_load_reserved, is_release, is_store_conditional, next_exchange}
+use Rattle.el_model.specs.Upcoming.{Swap, Touch, calls_or_stops, changes_word, is_load_reserved, is_release}
+use Rattle.el_model.specs.Upcoming.{is_store_conditional, next_exchange}
 use Rattle.el_model.specs.Upcoming.{next_reserved, next_swap, next_touch, stores_to_word}
 use Rattle.moesi.specs.Letters.{may_of, may_read}
 use Rattle.moesi.specs.declared.letter.Letter.TheVariants.{M}
@@ -63,14 +65,17 @@ touch_rule state h (Some touch) =
     if may_of (letter_of (cache_of state h) touch.line) touch.need then Runs (Some touch)
     else Misses touch.line touch.need
 
--- an LR arms its hart where the hart may read its line and no other hart waits to write there; else it runs as any instruction
+-- an LR arms its hart where the hart may read its line and no other hart waits to write there;
+-- else it runs as any instruction
 abbrev pub reserve_rule : ModelState → ℕ → Option ℕ → PlainRule
 reserve_rule state h None = touch_rule state h (next_touch state.committed h)
 reserve_rule state h (Some word) =
-    if may_read (letter_of (cache_of state h) (line_number word)) && not (is_wanted_to_write state h (line_number word)) then Arms word
+    if may_read (letter_of (cache_of state h) (line_number word))
+    && not (is_wanted_to_write state h (line_number word)) then Arms word
     else touch_rule state h (next_touch state.committed h)
 
--- an elidable swap needs its line for reading; one that changes its word begins a section, unless another hart waits to write there
+-- an elidable swap needs its line for reading; one that changes its word begins a section, unless
+-- another hart waits to write there
 abbrev pub swap_rule : ModelState → ℕ → Option Swap → PlainRule
 swap_rule state h None = reserve_rule state h (elidable_reserve state h)
 swap_rule state h (Some swap) =
@@ -172,7 +177,8 @@ abbrev pub began_hart : Mode → ℕ → Swap → Hart → Hart
 began_hart mode h swap hart =
     open_attempt mode h
     (record hart {
-      section = Some (record { count = suc (armed_count hart.armed); word = swap.word; old = swap.old; new = swap.new });
+      section =
+          Some (record { count = suc (armed_count hart.armed); word = swap.word; old = swap.old; new = swap.new });
       armed = None;
       cache = touched (marked hart.cache (line_number swap.word) Read) (line_number swap.word);
       held_line = None;

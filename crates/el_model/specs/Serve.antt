@@ -1,5 +1,6 @@
 -- an ordered request is served, or something is in its way
-use Rattle.std.specs.Prelude.{ℕ, Bool, true, false, ◌&&◌, List, [], Option, None, Some, is_some, not, ◌==◌, if◌then◌else◌}
+use Rattle.std.specs.Prelude.{ℕ, Bool, true, false, ◌&&◌, List, [], Option, None, Some, is_some, not, ◌==◌}
+use Rattle.std.specs.Prelude.{if◌then◌else◌}
 use Rattle.std.specs.List.{list_any}
 use Rattle.bus_order.specs.Order.{Request, removed}
 use Rattle.residency.specs.Cache.{filled_with, is_resident, letter_of, lettered, marked, touched, without_line}
@@ -63,8 +64,8 @@ abbrev pub kept_letter : Need → Letter → Letter
 kept_letter Read letter = letter
 kept_letter Write letter = M
 
--- the line in the cache of the hart that is served: a line that it had keeps its letter for a read and gets M for a write; another one
--- is filled, in a set of so many ways
+-- the line in the cache of the hart that is served: a line that it had keeps its letter for a read and gets M for a
+-- write; another one is filled, in a set of so many ways
 abbrev pub own_copy : ℕ → Bool → Need → List (List Way) → ℕ → List (List Way)
 own_copy ways others need cache line =
     if is_resident cache line then lettered cache line (kept_letter need (letter_of cache line))
@@ -83,7 +84,8 @@ forgetting origin hart =
 -- what the hart becomes whose request is served
 abbrev pub served_hart : ModelState → Request → Hart → Hart
 served_hart state request hart =
-    let filled = own_copy state.config.ways (others_have state request.hart request.line) request.need hart.cache request.line in
+    let filled =
+    own_copy state.config.ways (others_have state request.hart request.line) request.need hart.cache request.line in
     with_claim (is_some hart.section) request
     (record (forgetting request.hart hart) {
       cache = touched filled request.line;
@@ -95,11 +97,13 @@ served_hart state request hart =
 abbrev pub bystander : ModelState → Request → Hart → Hart
 bystander state request hart =
     record (forgetting request.hart hart) {
-      cache = others_cache (is_resident (cache_of state request.hart) request.line) request.need hart.cache request.line;
+      cache =
+          others_cache (is_resident (cache_of state request.hart) request.line) request.need hart.cache request.line;
     }
 
 abbrev pub serving : ModelState → Request → ℕ → Hart → Hart
-serving state request h hart = if h == request.hart then served_hart state request hart else bystander state request hart
+serving state request h hart =
+    if h == request.hart then served_hart state request hart else bystander state request hart
 
 -- the state after a request was served, before the next head of its line is faced
 unfoldable pub served : ModelState → Request → ModelState

@@ -1,5 +1,6 @@
 -- the state of the machine: what its harts have committed, what each hart has beside it, and the order of requests
-use Rattle.std.specs.Prelude.{ℕ, suc, Bool, false, ◌||◌, List, [], ◌∷◌, replicate, Option, None, Some, is_some, ◌==◌, slice_index_or, slice_set, if◌then◌else◌}
+use Rattle.std.specs.Prelude.{ℕ, suc, Bool, false, ◌||◌, List, [], ◌∷◌, replicate, Option, None, Some, is_some, ◌==◌}
+use Rattle.std.specs.Prelude.{slice_index_or, slice_set, if◌then◌else◌}
 use Rattle.bus_order.specs.Order.{Request, first_of, request_of}
 use Rattle.residency.specs.Cache.{empty_cache}
 use Rattle.residency.specs.Residency.{Way}
@@ -20,7 +21,8 @@ pub record Section : Type 0 where
   pub old : ℕ
   pub new : ℕ
 
--- an armed section: how many instructions it has run, from its LR on, and the word that the LR reserved. It has stored nothing
+-- an armed section: how many instructions it has run, from its LR on, and the word that the LR
+-- reserved. It has stored nothing
 pub record Armed : Type 0 where
   pub count : ℕ
   pub word : ℕ

@@ -1,5 +1,6 @@
 -- what the next instruction of a hart is to the rules, in a state of plain shared memory
-use Rattle.std.specs.Prelude.{ℕ, ◌+◌, Bool, true, false, ◌&&◌, ◌||◌, Option, None, Some, not, ◌==◌, nat_lt, if◌then◌else◌}
+use Rattle.std.specs.Prelude.{ℕ, ◌+◌, Bool, true, false, ◌&&◌, ◌||◌, Option, None, Some, not, ◌==◌, nat_lt}
+use Rattle.std.specs.Prelude.{if◌then◌else◌}
 use Rattle.rv_flat.specs.Program.{code_word}
 use Rattle.el_base.specs.Line.{line_number}
 use Rattle.el_base.specs.declared.outcomes.Need.{Need}
@@ -26,7 +27,8 @@ pub record Touch : Type 0 where
   pub line : ℕ
   pub need : Need
 
--- a swap, or a pair of LR and SC, as far as it exchanges a word: its address, the word that it finds there, and the one that it stores
+-- a swap, or a pair of LR and SC, as far as it exchanges a word: its address, the word that it finds
+-- there, and the one that it stores
 pub record Swap : Type 0 where
   pub word : ℕ
   pub old : ℕ
@@ -105,15 +107,16 @@ swap_of flat (Some store) = Some (record {
 abbrev pub next_swap : FlatState → ℕ → Option Swap
 next_swap flat h = if is_swap (next_insn flat h) then swap_of flat (next_store flat h) else None
 
--- the same where it is an SC that succeeds: it finds the word that the LR before it has read, unless that was stored to since, and then it
--- finds what was stored
+-- the same where it is an SC that succeeds: it finds the word that the LR before it has read, unless that was stored to
+-- since, and then it finds what was stored
 abbrev pub next_conditional : FlatState → ℕ → Option Swap
 next_conditional flat h = if is_store_conditional (next_insn flat h) then swap_of flat (next_store flat h) else None
 
 -- the hart's next instruction where it exchanges a word: a swap that does not trap, or an SC that succeeds
 abbrev pub next_exchange : FlatState → ℕ → Option Swap
 next_exchange flat h =
-    if is_swap (next_insn flat h) || is_store_conditional (next_insn flat h) then swap_of flat (next_store flat h) else None
+    if is_swap (next_insn flat h) || is_store_conditional (next_insn flat h)
+    then swap_of flat (next_store flat h) else None
 
 -- the address that an access reads
 abbrev pub read_at : Access → Option ℕ

@@ -1,5 +1,6 @@
 -- What a file without a fault is known to have.
-use Rattle.std.proofs.Common.{◌≡◌, ◌≤◌, ◌<◌, ℕ, ◌+◌, ◌*◌, ◌^◌, min, max, Bool, true, false, ◌&&◌, not, nat_lt, List, [], ◌∷◌, length, map, refl}
+use Rattle.std.proofs.Common.{◌≡◌, ◌≤◌, ◌<◌, ℕ, ◌+◌, ◌*◌, ◌^◌, min, max, Bool, true, false, ◌&&◌, not, nat_lt, List, []}
+use Rattle.std.proofs.Common.{◌∷◌, length, map, refl}
 use Rattle.std.proofs.Common.{arith, ltb-true, ltb-false}
 use Rattle.std.specs.Prelude.{Option, Some, None, All, fold, option_map}
 use Rattle.std.specs.Option.{option_or}
@@ -15,10 +16,13 @@ use Rattle.elf_image.specs.declared.layout.Layout.{Layout}
 use Rattle.elf_image.specs.declared.program_header.ProgramHeader.{ProgramHeader}
 use Rattle.elf_image.specs.Header.{file_header, program_headers}
 use Rattle.elf_image.specs.Limits.{end_limit, header_limit, memory_limit, stack_size}
-use Rattle.elf_image.specs.Layout.{is_segment, segment_end, segments_of, first_overlap, memory_base, memory_end, layout_of, size_of}
+use Rattle.elf_image.specs.Layout.{is_segment, segment_end, segments_of, first_overlap, memory_base, memory_end}
+use Rattle.elf_image.specs.Layout.{layout_of, size_of}
 use Rattle.elf_image.specs.FaultKinds.{fault_of}
-use Rattle.elf_image.specs.Faults.{fault, ident_fault, header_fault, headers_fault, memory_fault, differs, header_version_fault, file_kind_fault}
-use Rattle.elf_image.specs.Faults.{machine_fault, flags_fault, table_fault, dynamic_fault, load_fault, segments_fault, overlap_fault, too_wide_fault}
+use Rattle.elf_image.specs.Faults.{fault, ident_fault, header_fault, headers_fault, memory_fault, differs}
+use Rattle.elf_image.specs.Faults.{header_version_fault, file_kind_fault}
+use Rattle.elf_image.specs.Faults.{machine_fault, flags_fault, table_fault, dynamic_fault, load_fault, segments_fault}
+use Rattle.elf_image.specs.Faults.{overlap_fault, too_wide_fault}
 use Rattle.elf_image.specs.Faults.{too_high_fault, entry_fault, empty_fault, has_segment, is_entry}
 use Rattle.elf_image.specs.Loaded.{Fits, IsLoadable}
 
@@ -32,7 +36,8 @@ pub none_second : (a b : Option FileFault) → option_or a b ≡ None → b ≡ 
 none_second None b e = e
 none_second (Some x) b e = cc
 
-pub not_fault : (condition : Bool) (kind : FaultKind) (place : ℕ) → some_if condition (fault_of kind place) ≡ None → condition ≡ false
+pub not_fault : (condition : Bool) (kind : FaultKind) (place : ℕ) → some_if condition (fault_of kind place) ≡ None →
+    condition ≡ false
 not_fault true kind place e = cc
 not_fault false kind place e = refl
 
@@ -72,7 +77,8 @@ faultless file harts e =
 
 -- The header
 
-pub few_headers : (header : FileHeader) (file_len : ℕ) → header_fault header file_len ≡ None → header.e_phnum ≤ header_limit
+pub few_headers : (header : FileHeader) (file_len : ℕ) → header_fault header file_len ≡ None →
+    header.e_phnum ≤ header_limit
 unfolding header_fault
 few_headers header file_len e =
     let kind = none_second (header_version_fault header) _ e in
@@ -81,7 +87,8 @@ few_headers header file_len e =
     let table = none_first (table_fault header file_len) None (none_second (flags_fault header) _ flags) in
     let rest = none_second (some_if (differs header.e_ehsize 52) (fault_of Table 40)) _ table in
     let many = nat_lt header_limit header.e_phnum in
-    ltb-false header_limit header.e_phnum (not_fault many Table 44 (none_first (some_if many (fault_of Table 44)) _ rest))
+    ltb-false header_limit header.e_phnum
+    (not_fault many Table 44 (none_first (some_if many (fault_of Table 44)) _ rest))
 
 -- The segments in the file
 
@@ -90,21 +97,26 @@ pub record InFile (file_len : ℕ) (segment : ProgramHeader) : Type 0 where
   pub filled : segment.p_filesz ≤ segment.p_memsz
   pub in_file : 1 ≤ segment.p_filesz → segment.p_offset + segment.p_filesz ≤ file_len
 
-in_file : (file_len : ℕ) (segment : ProgramHeader) → load_fault file_len segment ≡ None → is_segment segment ≡ true → InFile file_len segment
+in_file : (file_len : ℕ) (segment : ProgramHeader) → load_fault file_len segment ≡ None → is_segment segment ≡ true →
+    InFile file_len segment
 in_file file_len segment e is = record { filled = grind (arith, nat_tests); in_file = λ some. grind (arith, nat_tests) }
 
-pub all_in_file : (file : List ℕ) → headers_fault (program_headers file) (length file) ≡ None → All (InFile (length file)) (segments_of file)
+pub all_in_file : (file : List ℕ) → headers_fault (program_headers file) (length file) ≡ None →
+    All (InFile (length file)) (segments_of file)
 unfolding headers_fault segments_of
 all_in_file file e =
     let headers = program_headers file in
-    let none = all_none (load_fault (length file)) headers (none_first (segments_fault headers (length file)) None (none_second (dynamic_fault headers) _ e)) in
+    let none =
+    all_none (load_fault (length file)) headers
+    (none_first (segments_fault headers (length file)) None (none_second (dynamic_fault headers) _ e)) in
     let kept = All-filter is_segment (λ header. load_fault (length file) header ≡ None) headers none in
     let passed = filter_passes is_segment headers in
     λ k d below. in_file (length file) _ (kept k d below) (passed k d below)
 
 -- The segments in memory
 
-lowest_below : (segments : List ProgramHeader) (start : ℕ) → fold (λ low segment. min low segment.p_vaddr) start segments ≤ start
+lowest_below : (segments : List ProgramHeader) (start : ℕ) →
+    fold (λ low segment. min low segment.p_vaddr) start segments ≤ start
 lowest_below [] start = omega arith
 lowest_below (x ∷ segments) start = let rest = lowest_below segments (min start x.p_vaddr) in omega arith
 
@@ -113,11 +125,13 @@ above_lowest : (segments : List ProgramHeader) (start : ℕ)
 above_lowest [] start = All-nil (λ segment. start ≤ segment.p_vaddr)
 above_lowest (x ∷ segments) start =
     let low = lowest_below segments (min start x.p_vaddr) in
-    All-cons (λ segment. fold (λ low other. min low other.p_vaddr) (min start x.p_vaddr) segments ≤ segment.p_vaddr) x segments
+    All-cons (λ segment. fold (λ low other. min low other.p_vaddr) (min start x.p_vaddr) segments ≤ segment.p_vaddr) x
+    segments
     (omega arith)
     (above_lowest segments (min start x.p_vaddr))
 
-highest_above : (segments : List ProgramHeader) (start : ℕ) → start ≤ fold (λ high segment. max high (segment_end segment)) start segments
+highest_above : (segments : List ProgramHeader) (start : ℕ) →
+    start ≤ fold (λ high segment. max high (segment_end segment)) start segments
 highest_above [] start = omega arith
 highest_above (x ∷ segments) start = let rest = highest_above segments (max start (segment_end x)) in omega arith
 
@@ -126,7 +140,8 @@ below_highest : (segments : List ProgramHeader) (start : ℕ)
 below_highest [] start = All-nil (λ segment. segment_end segment ≤ start)
 below_highest (x ∷ segments) start =
     let high = highest_above segments (max start (segment_end x)) in
-    All-cons (λ segment. segment_end segment ≤ fold (λ high other. max high (segment_end other)) (max start (segment_end x)) segments) x segments
+    All-cons (λ segment. segment_end segment ≤ fold (λ high other. max high (segment_end other))
+    (max start (segment_end x)) segments) x segments
     (omega arith)
     (below_highest segments (max start (segment_end x)))
 
@@ -135,7 +150,8 @@ pub record Spans (harts base end : ℕ) (segment : ProgramHeader) : Type 0 where
   pub above : base ≤ segment.p_vaddr
   pub below : segment_end segment + stack_size * harts ≤ end
 
-pub spans : (segments : List ProgramHeader) (harts : ℕ) → All (Spans harts (memory_base segments) (memory_end segments harts)) segments
+pub spans : (segments : List ProgramHeader) (harts : ℕ) →
+    All (Spans harts (memory_base segments) (memory_end segments harts)) segments
 unfolding memory_base memory_end
 spans segments harts k d within =
     let low = above_lowest segments (2 ^ 32) k d within in
@@ -171,7 +187,9 @@ in_memory segments layout entry e =
     let not_out = not_fault (some && out) Entry 24 (none_first (entry_fault segments entry) _ e3) in
     record {
       some = ltb-true 0 (length segments) here;
-      apart = none_before (λ segment. fault_of Overlap segment.place) (first_overlap segments) (none_first (overlap_fault segments) _ e);
+      apart =
+          none_before (λ segment. fault_of Overlap segment.place) (first_overlap segments)
+          (none_first (overlap_fault segments) _ e);
       narrow = ltb-false memory_limit (size_of layout) (unless_both some wide here not_wide);
       low = ltb-false end_limit layout.end (unless_both some high here not_high);
       starts = not-false _ (unless_both some out here not_out);

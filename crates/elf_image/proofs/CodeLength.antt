@@ -1,6 +1,7 @@
 -- Segments that are apart have together no more bytes than the memory that they lie in: each address is
 -- counted for at most one of them.
-use Rattle.std.proofs.Common.{◌≡◌, ◌≤◌, ℕ, zero, suc, ◌+◌, ◌-◌, min, max, Bool, true, false, cond, ◌&&◌, nat_le, nat_lt, List, [], ◌∷◌, ◌++◌, length}
+use Rattle.std.proofs.Common.{◌≡◌, ◌≤◌, ℕ, zero, suc, ◌+◌, ◌-◌, min, max, Bool, true, false, cond, ◌&&◌, nat_le, nat_lt}
+use Rattle.std.proofs.Common.{List, [], ◌∷◌, ◌++◌, length}
 use Rattle.std.proofs.Common.{map, inl, inr, refl, ◌∙◌, arith}
 use Rattle.std.specs.Prelude.{None, All, filter, sum_by, count_by}
 use Rattle.std.specs.List.{list_any, range_with_len}
@@ -22,7 +23,8 @@ abbrev has_address : ℕ → ProgramHeader → Bool
 has_address a segment = nat_le segment.p_vaddr a && nat_lt a (segment_end segment)
 
 -- how many of n numbers from b on lie in a range
-count_in_range : (low high b n : ℕ) → count_by (λ a. nat_le low a && nat_lt a high) (range_with_len b n) ≡ min (b + n) high - max b low
+count_in_range : (low high b n : ℕ) →
+    count_by (λ a. nat_le low a && nat_lt a high) (range_with_len b n) ≡ min (b + n) high - max b low
 count_in_range low high b zero = omega arith
 count_in_range low high b (suc n) =
     let rest = count_in_range low high (b + 1) n in
@@ -68,7 +70,8 @@ one_more a earlier x apart =
 counted : (base size : ℕ) (earlier later : List ProgramHeader)
     → overlap_after earlier later ≡ None
     → All (IsInside base size) later
-    → count_by (λ a. list_any (has_address a) earlier) (range_with_len base size) + sum_by (λ segment. segment.p_memsz) later
+    → count_by (λ a. list_any (has_address a) earlier) (range_with_len base size)
+    + sum_by (λ segment. segment.p_memsz) later
     ≡ count_by (λ a. list_any (has_address a) (earlier ++ later)) (range_with_len base size)
 counted base size earlier [] apart inside = simp append-nil (omega arith)
 counted base size earlier (x ∷ later) apart inside =
@@ -77,7 +80,9 @@ counted base size earlier (x ∷ later) apart inside =
     let here = All-head (IsInside base size) x later inside in
     let before : ℕ → Bool = λ a. list_any (has_address a) earlier in
     let after : ℕ → Bool = λ a. list_any (has_address a) (earlier ++ x ∷ []) in
-    let more = count_either before (λ a. has_address a x) after (range_with_len base size) (λ a. one_more a earlier x parts.0) in
+    let more =
+    count_either before (λ a. has_address a x) after (range_with_len base size)
+    (λ a. one_more a earlier x parts.0) in
     let own = count_in_range x.p_vaddr (segment_end x) base size in
     let total = sum_by-cons (λ segment. segment.p_memsz) x later in
     let joined = simp append_assoc at rest in
@@ -95,7 +100,8 @@ memory_length base size segments apart inside =
     let len = length-range_with_len base size in
     omega arith
 
-sum_by-filter : (f : ProgramHeader → ℕ) (p : ProgramHeader → Bool) (xs : List ProgramHeader) → sum_by f (filter p xs) ≤ sum_by f xs
+sum_by-filter : (f : ProgramHeader → ℕ) (p : ProgramHeader → Bool) (xs : List ProgramHeader) →
+    sum_by f (filter p xs) ≤ sum_by f xs
 sum_by-filter f p [] = omega arith
 sum_by-filter f p (x ∷ xs) =
     let rest = sum_by-filter f p xs in
@@ -105,7 +111,8 @@ sum_by-filter f p (x ∷ xs) =
 
 -- the code is no longer than the segments that it is of
 pub code_within : (base : ℕ) (bytes : List ℕ) (segments : List ProgramHeader)
-    → code_length (map (code_segment base bytes) (filter is_executable segments)) ≤ sum_by (λ segment. segment.p_memsz) segments
+    → code_length (map (code_segment base bytes) (filter is_executable segments))
+    ≤ sum_by (λ segment. segment.p_memsz) segments
 code_within base bytes segments =
     let code = filter is_executable segments in
     let Len : ProgramHeader → ℕ = λ segment. length (code_segment base bytes segment).bytes in

@@ -1,5 +1,6 @@
 -- Memory as it is filled segment by segment.
-use Rattle.std.proofs.Common.{◌≡◌, ◌≤◌, ◌<◌, ℕ, zero, suc, ◌+◌, ◌-◌, Bool, true, false, cond, ◌&&◌, nat_le, nat_lt, List, [], ◌∷◌, ◌++◌, length}
+use Rattle.std.proofs.Common.{◌≡◌, ◌≤◌, ◌<◌, ℕ, zero, suc, ◌+◌, ◌-◌, Bool, true, false, cond, ◌&&◌, nat_le, nat_lt}
+use Rattle.std.proofs.Common.{List, [], ◌∷◌, ◌++◌, length}
 use Rattle.std.proofs.Common.{get_or, take, map, slice_range, inl, inr, refl, sym, ◌∙◌, ap, arith}
 use Rattle.std.specs.Prelude.{Option, Some, None, find, All}
 use Rattle.std.specs.Option.{option_map_or, option_or}
@@ -18,11 +19,16 @@ use Rattle.elf_image.specs.Loaded.{Fits, is_filled, file_byte, loaded_byte}
 
 -- an element after a write of `part` over the n elements from `from` on
 get_or-put_mid : (xs part : List ℕ) (from n k : ℕ) → length part ≡ n → from + n ≤ length xs → k < length xs
-    → get_or (put_mid from n xs part) k 0 ≡ cond (nat_le from k && nat_lt k (from + n)) (get_or part (k - from) 0) (get_or xs k 0)
+    → get_or (put_mid from n xs part) k 0 ≡ cond (nat_le from k && nat_lt k (from + n))
+    (get_or part (k - from) 0) (get_or xs k 0)
 get_or-put_mid xs part from n k len inside below =
     elim (cases_lt k from) [
       | inl before ↦ grind (arith, places, nat_tests)
-      | inr behind ↦ elim (cases_lt k (from + n)) [ inl within ↦ grind (arith, places, nat_tests) | inr past ↦ grind (arith, places, nat_tests) ]
+      | inr behind ↦
+          elim (cases_lt k (from + n)) [
+            | inl within ↦ grind (arith, places, nat_tests)
+            | inr past ↦ grind (arith, places, nat_tests)
+          ]
     ]
 
 -- memory after the bytes of a segment that stand in the file were written to their place
@@ -45,7 +51,8 @@ get_or-filled bytes file part base segment from n first last k is place size beg
       | inr behind ↦ elim (cases_lt k (from + n)) [
         | inl within ↦
             let byte : get_or part (k - from) 0 ≡ get_or file (segment.p_offset + (base + k - segment.p_vaddr)) 0 =
-            ap (λ xs. get_or xs (k - from) 0) is ∙ get_or-between file first last (k - from) 0 (omega arith) ∙ ap (λ i. get_or file i 0) (omega arith)
+            ap (λ xs. get_or xs (k - from) 0) is ∙ get_or-between file first last (k - from) 0 (omega arith)
+            ∙ ap (λ i. get_or file i 0) (omega arith)
             in
             grind (arith, nat_tests)
         | inr past ↦ grind (arith, nat_tests)
@@ -55,27 +62,33 @@ get_or-filled bytes file part base segment from n first last k is place size beg
 -- memory at an address, once one more segment is filled in
 step : (f : ProgramHeader → ℕ) (b : Bool) (segment : ProgramHeader) (earlier : Option ProgramHeader)
     → (b ≡ true → earlier ≡ None)
-    → option_map_or f (option_or earlier (cond b (Some segment) None)) 0 ≡ cond b (f segment) (option_map_or f earlier 0)
+    → option_map_or f (option_or earlier (cond b (Some segment) None)) 0 ≡ cond b (f segment)
+    (option_map_or f earlier 0)
 step f true segment earlier none = rw (none refl) refl
 step f false segment None none = refl
 step f false segment (Some other) none = refl
 
-pub loaded_more : (file : List ℕ) (segments : List ProgramHeader) (i : ℕ) (d : ProgramHeader) (a : ℕ) → i < length segments
+pub loaded_more : (file : List ℕ) (segments : List ProgramHeader) (i : ℕ) (d : ProgramHeader) (a : ℕ) →
+    i < length segments
     → (is_filled a (get_or segments i d) ≡ true → find (is_filled a) (take i segments) ≡ None)
     → loaded_byte file (take (i + 1) segments) a
-    ≡ cond (is_filled a (get_or segments i d)) (file_byte file a (get_or segments i d)) (loaded_byte file (take i segments) a)
+    ≡ cond (is_filled a (get_or segments i d)) (file_byte file a (get_or segments i d))
+    (loaded_byte file (take i segments) a)
 unfolding loaded_byte
 loaded_more file segments i d a below none =
     rw (take_more segments i d below, find-append (is_filled a))
-    (step (file_byte file a) (is_filled a (get_or segments i d)) (get_or segments i d) (find (is_filled a) (take i segments)) none)
+    (step (file_byte file a) (is_filled a (get_or segments i d)) (get_or segments i d)
+    (find (is_filled a) (take i segments)) none)
 
 -- no segment shares a byte with an earlier one
-pub none_parts : (b : Bool) (x : ProgramHeader) (o : Option ProgramHeader) → cond b (Some x) o ≡ None → (b ≡ false) × (o ≡ None)
+pub none_parts : (b : Bool) (x : ProgramHeader) (o : Option ProgramHeader) → cond b (Some x) o ≡ None →
+    (b ≡ false) × (o ≡ None)
 none_parts true x o e = cc
 none_parts false x o e = (refl, e)
 
 pub apart_after : (earlier later : List ProgramHeader) (i : ℕ) (d : ProgramHeader)
-    → overlap_after earlier later ≡ None → i < length later → list_any (shares_byte (get_or later i d)) (earlier ++ take i later) ≡ false
+    → overlap_after earlier later ≡ None → i < length later →
+    list_any (shares_byte (get_or later i d)) (earlier ++ take i later) ≡ false
 apart_after earlier [] i d e below = absurd (omega arith)
 apart_after earlier (x ∷ later) zero d e below = rw append-nil (none_parts _ x _ e).0
 apart_after earlier (x ∷ later) (suc i) d e below =

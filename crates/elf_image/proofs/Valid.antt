@@ -1,5 +1,6 @@
 -- A file without a fault is a program.
-use Rattle.std.proofs.Common.{◌≡◌, ◌≤◌, ℕ, ◌+◌, ◌-◌, ◌*◌, ◌/◌, ◌%◌, true, List, [], ◌∷◌, length, map, inl, inr, refl, ◌∙◌, ap, arith, eqb-true, IsSome}
+use Rattle.std.proofs.Common.{◌≡◌, ◌≤◌, ℕ, ◌+◌, ◌-◌, ◌*◌, ◌/◌, ◌%◌, true, List, [], ◌∷◌, length, map, inl, inr, refl}
+use Rattle.std.proofs.Common.{◌∙◌, ap, arith, eqb-true, IsSome}
 use Rattle.std.specs.Prelude.{Option, Some, None, All, find, filter, option_map, ◌==◌}
 use Rattle.std.specs.List.{list_any}
 use Rattle.std.proofs.Math.Nat.{mul-mod_left}
@@ -12,7 +13,8 @@ use Rattle.std.proofs.lemmas.List.Sums.{length-filter, count_by-le-length}
 use Rattle.elf_image.specs.declared.program_header.ProgramHeader.{ProgramHeader}
 use Rattle.elf_image.specs.Header.{file_header, program_header, headers_at, program_headers}
 use Rattle.elf_image.specs.Layout as layout
-use Rattle.elf_image.specs.Layout.{is_segment, is_executable, has_instruction, segments_of, lowest, highest, memory_base, memory_end, layout_of}
+use Rattle.elf_image.specs.Layout.{is_segment, is_executable, has_instruction, segments_of, lowest, highest}
+use Rattle.elf_image.specs.Layout.{memory_base, memory_end, layout_of}
 use Rattle.elf_image.specs.Faults.{fault}
 use Rattle.elf_image.specs.Limits.{header_limit, stack_size}
 use Rattle.elf_image.specs.Loaded.{IsInside, code_segment, loaded_byte, loaded_bytes, program_of}
@@ -37,7 +39,8 @@ some_map : {A B : Type 0} (f : A → B) (o : Option A) → IsSome o → IsSome (
 some_map f None h = h
 some_map f (Some x) h = h
 
-found : (base : ℕ) (bytes : List ℕ) (pc : ℕ) (segments : List ProgramHeader) → All (IsInside base (length bytes)) segments
+found : (base : ℕ) (bytes : List ℕ) (pc : ℕ) (segments : List ProgramHeader) →
+    All (IsInside base (length bytes)) segments
     → list_any (has_instruction pc) segments ≡ true
     → IsSome (find (has_word pc) (map (code_segment base bytes) (filter is_executable segments)))
 found base bytes pc [] inside has = has
@@ -71,18 +74,23 @@ few_segments : (file : List ℕ) → (file_header file).e_phnum ≤ header_limit
 unfolding segments_of program_headers headers_at
 few_segments file few =
     let headers = program_headers file in
-    let len = length-map-range_with_len (λ index. program_header file ((file_header file).e_phoff + 32 * index)) 0 (file_header file).e_phnum in
+    let len =
+    length-map-range_with_len (λ index. program_header file ((file_header file).e_phoff + 32 * index)) 0
+    (file_header file).e_phnum in
     let kept = length-filter is_segment headers in
     let bound = count_by-le-length is_segment headers in
     omega arith
 
-size_of_loaded : (file : List ℕ) (harts : ℕ) → length (loaded_bytes file harts) ≡ memory_end (segments_of file) harts - memory_base (segments_of file)
+size_of_loaded : (file : List ℕ) (harts : ℕ) →
+    length (loaded_bytes file harts) ≡ memory_end (segments_of file) harts - memory_base (segments_of file)
 unfolding loaded_bytes
 size_of_loaded file harts =
     let segments = segments_of file in
-    length-map-range_with_len (loaded_byte file segments) (memory_base segments) (memory_end segments harts - memory_base segments)
+    length-map-range_with_len (loaded_byte file segments) (memory_base segments)
+    (memory_end segments harts - memory_base segments)
 
-pub is_program : (file : List ℕ) (harts : ℕ) → fault file harts ≡ None → 1 ≤ harts → harts ≤ 8 → IsProgram (program_of file harts)
+pub is_program : (file : List ℕ) (harts : ℕ) → fault file harts ≡ None → 1 ≤ harts → harts ≤ 8 →
+    IsProgram (program_of file harts)
 unfolding program_of code_word
 is_program file harts e some few =
     let segments = segments_of file in

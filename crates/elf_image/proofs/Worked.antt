@@ -6,13 +6,15 @@ use Rattle.byteorder.specs.Endian.{big_bytes}
 use Rattle.el_base.specs.declared.file_fault.FileFault.{FileFault}
 use Rattle.elf_image.specs.declared.limits.TheConstants as code
 use Rattle.elf_image.specs.declared.program_header.ProgramHeader.{ProgramHeader}
-use Rattle.elf_image.specs.declared.fault.FaultKind.TheVariants.{Short, Magic, Class, ByteOrder, Version, FileKind, Machine, Flags, Table, Dynamic}
+use Rattle.elf_image.specs.declared.fault.FaultKind.TheVariants.{Short, Magic, Class, ByteOrder, Version, FileKind}
+use Rattle.elf_image.specs.declared.fault.FaultKind.TheVariants.{Machine, Flags, Table, Dynamic}
 use Rattle.elf_image.specs.declared.fault.FaultKind.TheVariants.{Segment, TooHigh, Entry, Empty}
 use Rattle.elf_image.specs.Header.{file_header, program_header, headers_at, program_headers}
 use Rattle.elf_image.specs.Layout.{segments_of, first_overlap, memory_base, memory_end}
 use Rattle.elf_image.specs.FaultKinds.{fault_of}
 use Rattle.elf_image.specs.Faults.{fault, ident_fault, header_fault, headers_fault, memory_fault}
-use Rattle.elf_image.specs.Limits.{built_end_limit, built_limit, end_limit, file_limit, header_limit, memory_limit, page_size, stack_size}
+use Rattle.elf_image.specs.Limits.{built_end_limit, built_limit, end_limit, file_limit, header_limit, memory_limit}
+use Rattle.elf_image.specs.Limits.{page_size, stack_size}
 use Rattle.elf_image.specs.Loaded.{loaded_byte}
 
 -- the file, in groups of four bytes as they stand
@@ -58,7 +60,10 @@ judged =
     ∷ (changed 28 (0xff ∷ 0xff ∷ 0xff ∷ 0xff ∷ []) file, Some (fault_of Table 28))
     ∷ (changed 52 (3 ∷ []) file, Some (fault_of Dynamic 52))
     ∷ (changed 52 (0 ∷ []) file, Some (fault_of Empty 44))
-    ∷ (changed 60 (0x00 ∷ 0xff ∷ 0xff ∷ 0xff ∷ []) (changed 72 (0x00 ∷ 0x02 ∷ 0x00 ∷ 0x00 ∷ []) file), Some (fault_of TooHigh 28))
+    ∷ (
+      changed 60 (0x00 ∷ 0xff ∷ 0xff ∷ 0xff ∷ []) (changed 72 (0x00 ∷ 0x02 ∷ 0x00 ∷ 0x00 ∷ []) file),
+      Some (fault_of TooHigh 28),
+    )
     ∷ (changed 72 (0x79 ∷ []) file, Some (fault_of Segment 68))
     ∷ (changed 76 (4 ∷ []) file, Some (fault_of Entry 24))
     ∷ (changed 24 (0x56 ∷ []) file, Some (fault_of Entry 24))
@@ -66,11 +71,13 @@ judged =
     ∷ []
 
 each_judged : map (λ (bytes, found). fault bytes 1) judged ≡ map (λ (bytes, found). found) judged
-unfolding fault ident_fault header_fault headers_fault memory_fault file_header program_header headers_at program_headers segments_of memory_base memory_end
+unfolding fault ident_fault header_fault headers_fault memory_fault file_header program_header headers_at
+    program_headers segments_of memory_base memory_end
 each_judged = refl
 
 accepted_for_eight : fault file 8 ≡ None
-unfolding fault ident_fault header_fault headers_fault memory_fault file_header program_header headers_at program_headers segments_of memory_base memory_end
+unfolding fault ident_fault header_fault headers_fault memory_fault file_header program_header headers_at
+    program_headers segments_of memory_base memory_end
 accepted_for_eight = refl
 
 -- a segment as far as its place in memory goes
@@ -133,5 +140,6 @@ in_code =
     code.IMAGE_FILE_LIMIT ∷ code.PROGRAM_HEADER_LIMIT ∷ code.STACK_BYTES ∷ code.MEMORY_LIMIT ∷ code.MEMORY_END_LIMIT
     ∷ code.PAGE_BYTES ∷ code.BUILT_LIMIT ∷ code.BUILT_END_LIMIT ∷ []
 
-limits_in_code : in_code ≡ file_limit ∷ header_limit ∷ stack_size ∷ memory_limit ∷ end_limit ∷ page_size ∷ built_limit ∷ built_end_limit ∷ []
+limits_in_code : in_code ≡ file_limit ∷ header_limit ∷ stack_size ∷ memory_limit ∷ end_limit ∷ page_size ∷ built_limit
+    ∷ built_end_limit ∷ []
 limits_in_code = refl

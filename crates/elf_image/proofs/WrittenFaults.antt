@@ -6,8 +6,10 @@ use Rattle.std.proofs.lemmas.Bool.Decides.{nat_tests}
 use Rattle.std.proofs.lemmas.List.{length-append}
 use Rattle.elf_image.specs.declared.built.Built.{Built}
 use Rattle.elf_image.specs.declared.layout.Layout.{Layout}
-use Rattle.elf_image.specs.Built.{IsBuildable, words_len, data_len, words_end, data_start, data_end, built_header, words_header, data_header, image_file}
-use Rattle.elf_image.specs.Faults.{IsFaultless, fault, magic_fault, class_fault, byte_order_fault, ident_version_fault, ident_fault, header_fault}
+use Rattle.elf_image.specs.Built.{IsBuildable, words_len, data_len, words_end, data_start, data_end, built_header}
+use Rattle.elf_image.specs.Built.{words_header, data_header, image_file}
+use Rattle.elf_image.specs.Faults.{IsFaultless, fault, magic_fault, class_fault, byte_order_fault, ident_version_fault}
+use Rattle.elf_image.specs.Faults.{ident_fault, header_fault}
 use Rattle.elf_image.specs.Faults.{headers_fault, memory_fault}
 use Rattle.elf_image.specs.Header.{file_header_bytes, program_header_bytes}
 use Rattle.elf_image.specs.Layout.{round_up, memory_base, memory_end, layout_of, size_of}
@@ -50,16 +52,19 @@ headers_none built len fits =
 -- The segments in memory
 
 -- where a written image lies
-pub base_is : (built : Built) → IsBuildable built → memory_base (words_header built ∷ data_header built ∷ []) ≡ built.base
+pub base_is : (built : Built) → IsBuildable built →
+    memory_base (words_header built ∷ data_header built ∷ []) ≡ built.base
 unfolding memory_base
 base_is built ok = omega (arith, ok.base_on_page, ok.not_high)
 
 pub end_is : (built : Built) (harts : ℕ) → IsBuildable built
-    → memory_end (words_header built ∷ data_header built ∷ []) harts ≡ round_up line_size (data_end built) + stack_size * harts
+    → memory_end (words_header built ∷ data_header built ∷ []) harts ≡ round_up line_size
+    (data_end built) + stack_size * harts
 unfolding memory_end
 end_is built harts ok = omega arith
 
-memory_none : (built : Built) (layout : Layout) → IsBuildable built → size_of layout ≤ memory_limit → layout.end ≤ end_limit
+memory_none : (built : Built) (layout : Layout) → IsBuildable built → size_of layout ≤ memory_limit →
+    layout.end ≤ end_limit
     → memory_fault (words_header built ∷ data_header built ∷ []) layout built.entry ≡ None
 unfolding memory_fault
 memory_none built layout ok narrow low =

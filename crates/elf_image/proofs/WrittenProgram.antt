@@ -1,15 +1,18 @@
 -- The program that a written image loads is the one that was built.
-use Rattle.std.proofs.Common.{◌≡◌, ◌≤◌, ◌<◌, ℕ, ◌+◌, ◌-◌, ◌*◌, Bool, true, false, cond, ◌&&◌, nat_le, nat_lt, List, [], ◌∷◌, ◌++◌, length, get_or}
+use Rattle.std.proofs.Common.{◌≡◌, ◌≤◌, ◌<◌, ℕ, ◌+◌, ◌-◌, ◌*◌, Bool, true, false, cond, ◌&&◌, nat_le, nat_lt, List, []}
+use Rattle.std.proofs.Common.{◌∷◌, ◌++◌, length, get_or}
 use Rattle.std.proofs.Common.{slice_index, slice_range, inl, inr, refl, sym, ◌∙◌, ap, arith}
 use Rattle.std.specs.Prelude.{None, Some, replicate}
 use Rattle.std.specs.Option.{option_map_or}
 use Rattle.std.proofs.lemmas.Bool.{cases_lt, le-leb}
 use Rattle.std.proofs.lemmas.Bool.Decides.{nat_tests}
-use Rattle.std.proofs.lemmas.List.{places, append_assoc, length-append, get_or-append_right, length-replicate, same_lists}
+use Rattle.std.proofs.lemmas.List.{places, append_assoc, length-append, get_or-append_right, length-replicate}
+use Rattle.std.proofs.lemmas.List.{same_lists}
 use Rattle.std.proofs.lemmas.List.Edits.{length-between, get_or-between}
 use Rattle.elf_image.specs.declared.built.Built.{Built}
 use Rattle.elf_image.specs.declared.program_header.ProgramHeader.{ProgramHeader}
-use Rattle.elf_image.specs.Built.{IsBuildable, words_len, words_end, data_start, data_end, built_header, words_header, data_header, image_file}
+use Rattle.elf_image.specs.Built.{IsBuildable, words_len, words_end, data_start, data_end, built_header, words_header}
+use Rattle.elf_image.specs.Built.{data_header, image_file}
 use Rattle.elf_image.specs.Built.{built_memory, built_program}
 use Rattle.elf_image.specs.Header.{file_header_bytes, program_header_bytes}
 use Rattle.elf_image.specs.Layout.{round_up, layout_of, size_of}
@@ -28,7 +31,9 @@ behind_headers : (built : Built) (k : ℕ)
     → slice_index (image_file built) (116 + k) ≡ slice_index (word_bytes built.words.items ++ built.bytes.items) k
 unfolding image_file file_header_bytes program_header_bytes
 behind_headers built k =
-    let headers = file_header_bytes (built_header built) ++ program_header_bytes (words_header built) ++ program_header_bytes (data_header built) in
+    let headers =
+    file_header_bytes (built_header built) ++ program_header_bytes (words_header built)
+    ++ program_header_bytes (data_header built) in
     let rest = word_bytes built.words.items ++ built.bytes.items in
     get_or-append_right headers rest 116 (116 + k) 0 refl (omega arith) ∙ ap (λ i. get_or rest i 0) (omega arith)
 
@@ -49,7 +54,8 @@ loaded_two file first second a = of_two (file_byte file a) (is_filled a first) (
 four_parts : (words bytes : List ℕ) (gap rest k : ℕ)
     → get_or (words ++ replicate gap 0 ++ bytes ++ replicate rest 0) k 0
     ≡ cond (nat_lt k (length words)) (get_or words k 0)
-    (cond (nat_le (length words + gap) k && nat_lt k (length words + gap + length bytes)) (get_or bytes (k - (length words + gap)) 0) 0)
+    (cond (nat_le (length words + gap) k && nat_lt k (length words + gap + length bytes))
+    (get_or bytes (k - (length words + gap)) 0) 0)
 four_parts words bytes gap rest k =
     elim (cases_lt k (length words)) [
       | inl in_words ↦ grind (arith, places, nat_tests)
@@ -67,9 +73,11 @@ same_byte : (words bytes file : List ℕ) (base start len gap k : ℕ)
     → start ≡ base + len + gap
     → ((i : ℕ) → slice_index file (116 + i) ≡ get_or (words ++ bytes) i 0)
     → cond (nat_lt k (length words)) (get_or words k 0)
-    (cond (nat_le (length words + gap) k && nat_lt k (length words + gap + length bytes)) (get_or bytes (k - (length words + gap)) 0) 0)
+    (cond (nat_le (length words + gap) k && nat_lt k (length words + gap + length bytes))
+    (get_or bytes (k - (length words + gap)) 0) 0)
     ≡ cond (nat_le base (base + k) && nat_lt (base + k) (base + len)) (slice_index file (116 + (base + k - base)))
-    (cond (nat_le start (base + k) && nat_lt (base + k) (start + length bytes)) (slice_index file (116 + len + (base + k - start))) 0)
+    (cond (nat_le start (base + k) && nat_lt (base + k) (start + length bytes))
+    (slice_index file (116 + len + (base + k - start))) 0)
 same_byte words bytes file base start len gap k is_len is_start in_file =
     elim (cases_lt k len) [
       | inl in_words ↦
@@ -89,7 +97,8 @@ same_byte words bytes file base start len gap k is_len is_start in_file =
     ]
 
 byte_at : (built : Built) (harts k : ℕ)
-    → get_or (built_memory built harts) k 0 ≡ loaded_byte (image_file built) (words_header built ∷ data_header built ∷ []) (built.base + k)
+    → get_or (built_memory built harts) k 0 ≡ loaded_byte (image_file built)
+    (words_header built ∷ data_header built ∷ []) (built.base + k)
 unfolding built_memory
 byte_at built harts k =
     let words = word_bytes built.words.items in
@@ -99,7 +108,8 @@ byte_at built harts k =
     let behind = built.zeros + (round_up line_size (data_end built) - data_end built) + stack_size * harts in
     let start : data_start built ≡ words_end built + gap = omega arith in
     four_parts words bytes gap behind k
-    ∙ same_byte words bytes (image_file built) built.base (data_start built) (words_len built) gap k (sym len) start (behind_headers built)
+    ∙ same_byte words bytes (image_file built) built.base (data_start built) (words_len built) gap k (sym len) start
+    (behind_headers built)
     ∙ sym (loaded_two (image_file built) (words_header built) (data_header built) (built.base + k))
 
 length-built_memory : (built : Built) (harts : ℕ) → IsBuildable built
@@ -109,7 +119,8 @@ length-built_memory built harts ok =
     simp (length-append, length-replicate)
     (omega (arith, length-word_bytes built.words.items, ok.base_on_page))
 
-memory_is : (built : Built) (harts : ℕ) → IsBuildable built → loaded_bytes (image_file built) harts ≡ built_memory built harts
+memory_is : (built : Built) (harts : ℕ) → IsBuildable built →
+    loaded_bytes (image_file built) harts ≡ built_memory built harts
 unfolding loaded_bytes
 memory_is built harts ok =
     let segments = words_header built ∷ data_header built ∷ [] in
@@ -122,7 +133,8 @@ memory_is built harts ok =
 
 -- The code
 
-first_part : (words rest : List ℕ) (from to : ℕ) → from ≡ 0 → to ≡ length words → slice_range (words ++ rest) from to ≡ words
+first_part : (words rest : List ℕ) (from to : ℕ) → from ≡ 0 → to ≡ length words →
+    slice_range (words ++ rest) from to ≡ words
 first_part words rest from to is_from is_to =
     let fits : to ≤ length (words ++ rest) = simp length-append (omega arith) in
     let len = length-between (words ++ rest) from to fits in
@@ -139,10 +151,17 @@ code_is built harts =
 
 -- The program
 
-pub program_is : (built : Built) (harts : ℕ) → IsBuildable built → program_of (image_file built) harts ≡ built_program built harts
+pub program_is : (built : Built) (harts : ℕ) → IsBuildable built →
+    program_of (image_file built) harts ≡ built_program built harts
 unfolding program_of built_program
 program_is built harts ok =
-    rw (memory_is built harts ok, segments_back built ok, base_is built ok, file_header_back built ok, code_is built harts) refl
+    rw (
+      memory_is built harts ok,
+      segments_back built ok,
+      base_is built ok,
+      file_header_back built ok,
+      code_is built harts,
+    ) refl
 
 pub code_word-built : (built : Built) (harts i : ℕ) → ReadBack built.words.items → i < length built.words.items
     → code_word (built_program built harts).code (built.base + 4 * i) ≡ Some (slice_index built.words.items i)

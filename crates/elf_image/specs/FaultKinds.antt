@@ -2,7 +2,8 @@
 use Rattle.std.specs.Prelude.{ℕ, ◌==◌, List, [], ◌∷◌, Option, find, option_map, codes}
 use Rattle.el_base.specs.declared.file_fault.FileFault.{FileFault}
 use Rattle.elf_image.specs.declared.fault.FaultKind.{FaultKind}
-use Rattle.elf_image.specs.declared.fault.FaultKind.TheVariants.{Short, Magic, Class, ByteOrder, Version, FileKind, Machine, Flags, Table, Dynamic}
+use Rattle.elf_image.specs.declared.fault.FaultKind.TheVariants.{Short, Magic, Class, ByteOrder, Version, FileKind}
+use Rattle.elf_image.specs.declared.fault.FaultKind.TheVariants.{Machine, Flags, Table, Dynamic}
 use Rattle.elf_image.specs.declared.fault.FaultKind.TheVariants.{Segment, Overlap, TooWide, TooHigh, Entry, Empty}
 
 -- the number of a kind of fault

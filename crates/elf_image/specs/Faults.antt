@@ -1,11 +1,13 @@
 -- The grammar of images: the first of sixteen faults, or none. Above each fault stands what a file that does not
 -- have it keeps to.
-use Rattle.std.specs.Prelude.{◌≡◌, ◌≤◌, ℕ, ◌+◌, ◌*◌, ◌%◌, Bool, not, ◌&&◌, ◌==◌, nat_lt, nat_le, if◌then◌else◌, List, [], ◌∷◌, map, length}
+use Rattle.std.specs.Prelude.{◌≡◌, ◌≤◌, ℕ, ◌+◌, ◌*◌, ◌%◌, Bool, not, ◌&&◌, ◌==◌, nat_lt, nat_le, if◌then◌else◌, List}
+use Rattle.std.specs.Prelude.{[], ◌∷◌, map, length}
 use Rattle.std.specs.Prelude.{slice_index, Option, None, find, position, zip, option_map}
 use Rattle.std.specs.List.{list_any}
 use Rattle.el_base.specs.Firsts.{first_of, some_if}
 use Rattle.el_base.specs.declared.file_fault.FileFault.{FileFault}
-use Rattle.elf_image.specs.declared.fault.FaultKind.TheVariants.{Short, Magic, Class, ByteOrder, Version, FileKind, Machine, Flags, Table, Dynamic}
+use Rattle.elf_image.specs.declared.fault.FaultKind.TheVariants.{Short, Magic, Class, ByteOrder, Version, FileKind}
+use Rattle.elf_image.specs.declared.fault.FaultKind.TheVariants.{Machine, Flags, Table, Dynamic}
 use Rattle.elf_image.specs.declared.fault.FaultKind.TheVariants.{Segment, Overlap, TooWide, TooHigh, Entry, Empty}
 use Rattle.elf_image.specs.declared.header.FileHeader.{FileHeader}
 use Rattle.elf_image.specs.declared.program_header.ProgramHeader.{ProgramHeader}
@@ -90,7 +92,8 @@ load_fault file_len header =
     if is_load header
     then first_of
     (some_if (nat_lt header.p_memsz header.p_filesz) (fault_of Segment (header.place + 16))
-    ∷ some_if (nat_le 1 header.p_filesz && nat_lt file_len (header.p_offset + header.p_filesz)) (fault_of Segment (header.place + 4))
+    ∷ some_if (nat_le 1 header.p_filesz && nat_lt file_len (header.p_offset + header.p_filesz))
+    (fault_of Segment (header.place + 4))
     ∷ [])
     else None
 

@@ -1,5 +1,6 @@
 -- A program in memory before its first step.
-use Rattle.std.specs.Prelude.{◌≡◌, ◌≤◌, ℕ, ◌+◌, ◌-◌, ◌*◌, ◌%◌, Bool, ◌&&◌, nat_le, List, length, Option, IsSome, find, sum_by}
+use Rattle.std.specs.Prelude.{◌≡◌, ◌≤◌, ℕ, ◌+◌, ◌-◌, ◌*◌, ◌%◌, Bool, ◌&&◌, nat_le, List, length, Option, IsSome, find}
+use Rattle.std.specs.Prelude.{sum_by}
 use Rattle.std.specs.Option.{option_map}
 use Rattle.elf_image.specs.Limits.{end_limit, header_limit, line_size, memory_limit, stack_size}
 use Rattle.elf_image.specs.Numbers.{word_at}

@@ -1,7 +1,8 @@
 -- the nearest symbol of a list
 use Rattle.std.proofs.lemmas.List.{append_assoc}
 use Rattle.std.proofs.lemmas.List.Elements.{All-push, Contains-append_left, Contains-append_right}
-use Rattle.std.proofs.Common.{◌≡◌, ℕ, zero, ◌<◌, ◌≤◌, List, [], ◌∷◌, ◌++◌, true, false, Option, Some, None, refl, sym, arith, append-nil}
+use Rattle.std.proofs.Common.{◌≡◌, ℕ, zero, ◌<◌, ◌≤◌, List, [], ◌∷◌, ◌++◌, true, false, Option, Some, None, refl, sym}
+use Rattle.std.proofs.Common.{arith, append-nil}
 use Rattle.std.specs.Prelude.{All, Contains, MatchOption, fold, ◌||◌, if◌then◌else◌}
 use Rattle.elf_symbols.specs.declared.entries.Symbol.{Symbol}
 use Rattle.elf_symbols.specs.Known.{IsNearest, nearer, nearest}
@@ -33,7 +34,8 @@ pub kept : (address : ℕ) (done : List Symbol) (held symbol : Symbol) →
 kept address done held symbol nearest farther = record {
   known = Contains-append_left done (symbol ∷ []) held nearest.known;
   not_above = nearest.not_above;
-  none_nearer = All-push (λ other. other.value ≤ address → other.value ≤ held.value) done symbol nearest.none_nearer farther;
+  none_nearer =
+      All-push (λ other. other.value ≤ address → other.value ≤ held.value) done symbol nearest.none_nearer farther;
 }
 
 -- a symbol that is nearer takes its place

@@ -1,5 +1,6 @@
 -- What is known of a file's symbols.
-use Rattle.std.specs.Prelude.{◌≡◌, ◌≤◌, ◌<◌, ℕ, List, [], All, Contains, take, drop, fold, nat_lt, nat_le, ◌||◌, if◌then◌else◌, Option, Some, None}
+use Rattle.std.specs.Prelude.{◌≡◌, ◌≤◌, ◌<◌, ℕ, List, [], All, Contains, take, drop, fold, nat_lt, nat_le, ◌||◌}
+use Rattle.std.specs.Prelude.{if◌then◌else◌, Option, Some, None}
 use Rattle.std.specs.List.{filter_map, range_with_len}
 use Rattle.elf_symbols.specs.declared.entries.Symbol.{Symbol}
 use Rattle.elf_symbols.specs.declared.location.Location.{Location}

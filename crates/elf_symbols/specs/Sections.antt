@@ -1,5 +1,6 @@
 -- Where the symbol table of an ELF file lies.
-use Rattle.std.specs.Prelude.{ℕ, ◌+◌, ◌*◌, ◌/◌, ◌==◌, ◌&&◌, ◌||◌, Bool, not, nat_lt, nat_le, if◌then◌else◌, List, length, find, min}
+use Rattle.std.specs.Prelude.{ℕ, ◌+◌, ◌*◌, ◌/◌, ◌==◌, ◌&&◌, ◌||◌, Bool, not, nat_lt, nat_le, if◌then◌else◌, List}
+use Rattle.std.specs.Prelude.{length, find, min}
 use Rattle.std.specs.Prelude.{Option, Some, None}
 use Rattle.std.specs.List.{range_with_len}
 use Rattle.elf_symbols.specs.declared.location.Location.{Location}
@@ -11,7 +12,8 @@ use Rattle.elf_symbols.specs.Fields.{byte_at, half_at, word_at}
 
 -- the header of an ELF file of 32 bits, little endian, is whole
 abbrev pub is_elf32 : List ℕ → Bool
-is_elf32 file = nat_le 52 (length file) && (word_at file 0 == 0x464c457f) && (byte_at file 4 == 1) && (byte_at file 5 == 1)
+is_elf32 file =
+    nat_le 52 (length file) && (word_at file 0 == 0x464c457f) && (byte_at file 4 == 1) && (byte_at file 5 == 1)
 
 abbrev pub header_of : List ℕ → Header
 header_of file = record { e_shoff = word_at file 32; e_shentsize = half_at file 46; e_shnum = half_at file 48 }
@@ -32,7 +34,8 @@ is_symtab section = section.sh_type == 2
 
 -- the number of the first symbol table
 abbrev pub first_symtab : List ℕ → Header → Option ℕ
-first_symtab file header = find (λ index. is_symtab (section_at file header.e_shoff index)) (range_with_len 0 header.e_shnum)
+first_symtab file header =
+    find (λ index. is_symtab (section_at file header.e_shoff index)) (range_with_len 0 header.e_shnum)
 
 -- all bytes of a section stand in a file of so many bytes
 abbrev pub is_inside : ℕ → Section → Bool

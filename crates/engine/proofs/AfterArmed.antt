@@ -18,7 +18,8 @@ use Rattle.engine.proofs.Misses.{freed_here}
 use Rattle.engine.proofs.Others.{IsSeenAs, seen_same}
 use Rattle.engine.proofs.Outsiders.{step_is}
 use Rattle.engine.proofs.StandsOutside.{action_is, has_own, idle, inside, is_own, runs, runs_there, view_is}
-use Rattle.engine.proofs.Stepped.{HasStepped, IsBetween, IsCacheOf, after_turn, freed_between, marked_cache, marked_formed, noted_between}
+use Rattle.engine.proofs.Stepped.{HasStepped, IsBetween, IsCacheOf, after_turn, freed_between, marked_cache}
+use Rattle.engine.proofs.Stepped.{marked_formed, noted_between}
 use Rattle.engine.proofs.Stepped.{ready_between, shows_between, stays_in_place}
 use Rattle.engine.specs.Acting.{ActsOutside, next_action, sets_in}
 use Rattle.engine.specs.Beginning.{IsReadMarked}
@@ -49,14 +50,16 @@ now_of from h word = arming_hart word (hart_of from h)
 abbrev noted_of : ModelState → ℕ → ℕ → Hart
 noted_of from h word = record (hart_of from h) { held_line = None; armed = Some (record { count = 1; word = word }) }
 
-module _ (old : Parts) (bus : BusState) (hart : HartId) (from : ModelState) (acts : ActsOutside old hart.number from) (word : ℕ)
+module _ (old : Parts) (bus : BusState) (hart : HartId) (from : ModelState)
+    (acts : ActsOutside old hart.number from) (word : ℕ)
     (noted : LeavesNoted hart.number 1 old.bus bus) where
   abbrev h : ℕ
   h = hart.number
 
   pub noted_armed : IsBetween bus from (with_hart from h (noted_of from h word)) h (noted_of from h word)
   noted_armed =
-      noted_between old.bus bus from _ h 1 _ (noted_of from h word) (freed_between old h from acts.may) noted refl refl refl
+      noted_between old.bus bus from _ h 1 _ (noted_of from h word) (freed_between old h from acts.may)
+      noted refl refl refl
       (ap is_some acts.no_section ∙ sym (lives_armed (hart_of from h).cache 1 (omega arith)))
 
   pub inside_bus : h < length bus.copies.caches
@@ -74,20 +77,24 @@ module _ (old : Parts) (bus : BusState) (hart : HartId) (from : ModelState) (act
   module _ (cache : Slotted) (marks : IsReadMarked (slotted_at bus.copies.caches h) cache (line_number word)) where
     is_cache : IsCacheOf bus h cache (now_of from h word)
     is_cache =
-        marked_cache bus h (line_number word) cache from _ (noted_of from h word) (now_of from h word) noted_armed marks refl
+        marked_cache bus h (line_number word) cache from _ (noted_of from h word) (now_of from h word)
+        noted_armed marks refl
         (ap is_some acts.no_section) (omega arith)
 
     pub armed_ready : from.config.mode ≢ Plain → IsReady (returned bus h cache)
     armed_ready elides =
-        ready_between bus from _ h cache (noted_of from h word) inside_bus noted.ready noted_armed refl refl acts.may.free
+        ready_between bus from _ h cache (noted_of from h word) inside_bus noted.ready noted_armed refl
+        refl acts.may.free
         (marked_formed bus h (line_number word) cache inside_bus noted.ready marks)
         (λ plain. absurd (elides (sym noted_armed.shows.mode ∙ plain)))
 
     abbrev state : ModelState
     state = with_hart from h (now_of from h word)
 
-    module _ (found : ℕ) (rd : Reg) (is : actions.LoadReserved rd word ≡ next_action old h) (rule : plain_rule from h ≡ Arms word)
-        (tells : found ≡ loaded (byte_in from.committed.base from.committed.bytes) word 4) (aligned : word % 4 ≡ 0) where
+    module _ (found : ℕ) (rd : Reg) (is : actions.LoadReserved rd word ≡ next_action old h)
+        (rule : plain_rule from h ≡ Arms word)
+        (tells : found ≡ loaded (byte_in from.committed.base from.committed.bytes) word 4)
+        (aligned : word % 4 ≡ 0) where
       abbrev own : OwnState
       own = armed_own word found rd.number (own_at old.harts h)
 
@@ -106,11 +113,15 @@ module _ (old : Parts) (bus : BusState) (hart : HartId) (from : ModelState) (act
           record {
             part = subst (HasOwn own) (sym here) part;
             view = view_is old h from acts;
-            section = subst (λ live. KeepsSectionOf old.pool state h live own.section) (sym (ap (λ k. k.section) here ∙ acts.no_section)) tt;
+            section =
+                subst (λ live. KeepsSectionOf old.pool state h live own.section)
+                (sym (ap (λ k. k.section) here ∙ acts.no_section)) tt;
             armed =
-                subst (λ view. KeepsArmed from.committed h (record { count = 1; word = word }) found (reserved_view view rd.number word found))
+                subst (λ view. KeepsArmed from.committed h (record { count = 1; word = word }) found
+                (reserved_view view rd.number word found))
                 (sym (view_is old h from acts))
-                (arms from.committed h word found rd (runs_there old h from acts) (sym (is ∙ action_is old h from acts)) tells);
+                (arms from.committed h word found rd (runs_there old h from acts)
+                (sym (is ∙ action_is old h from acts)) tells);
             stands = record {
               mark = refl;
               running = runs old h from acts;
@@ -131,19 +142,25 @@ module _ (old : Parts) (bus : BusState) (hart : HartId) (from : ModelState) (act
             span = refl;
             code = refl;
             output = refl;
-            shows = shows_between bus from _ h cache (noted_of from h word) (now_of from h word) inside_bus noted_armed refl refl is_cache;
+            shows =
+                shows_between bus from _ h cache (noted_of from h word) (now_of from h word) inside_bus noted_armed
+                refl refl is_cache;
             told =
-                told_same old.pool bus h cache _ (told_copies old.pool old.bus bus _ noted.copies_stay acts.may.is_in.told) inside_bus marks.keeps;
+                told_same old.pool bus h cache _
+                (told_copies old.pool old.bus bus _ noted.copies_stay acts.may.is_in.told) inside_bus marks.keeps;
             beside = beside_same h old.pool;
             each = length-set old.harts h own;
-            own = subst (IsOfHart old.pool state h) (sym (get_or-set_same old.harts h own none acts.may.exists)) own_now;
+            own =
+                subst (IsOfHart old.pool state h) (sym (get_or-set_same old.harts h own none acts.may.exists)) own_now;
             others = λ g other exists. subst (λ o. IsSeenAs (own_at old.harts g) o (view_of from.committed g))
                 (sym (get_or-set_other old.harts h g own none other))
                 (seen_same (own_at old.harts g) (view_of from.committed g) (acts.may.is_in.harts g exists).view);
           }
 
-      pub armed_in : IsInState (record old { bus = returned bus h cache; harts = slice_set old.harts h own }) (by_plain_rule from h (Arms word)).state
+      pub armed_in : IsInState (record old { bus = returned bus h cache; harts = slice_set old.harts h own })
+          (by_plain_rule from h (Arms word)).state
       unfolding by_plain_rule
       armed_in =
-          after_turn old _ hart from (by_plain_rule from h (Arms word)) acts.may (step_is old hart from (Arms word) acts rule)
+          after_turn old _ hart from (by_plain_rule from h (Arms word)) acts.may
+          (step_is old hart from (Arms word) acts rule)
           (stays_in_place from.committed) stepped

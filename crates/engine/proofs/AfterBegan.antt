@@ -1,5 +1,6 @@
 -- a section has begun: the parts are in the definition's state
-use Rattle.std.proofs.Common.{◌≡◌, ◌∙◌, ℕ, suc, ◌%◌, ◌<◌, true, List, [], length, Some, None, is_some, refl, ap, sym, subst}
+use Rattle.std.proofs.Common.{◌≡◌, ◌∙◌, ℕ, suc, ◌%◌, ◌<◌, true, List, [], length, Some, None, is_some, refl, ap, sym}
+use Rattle.std.proofs.Common.{subst}
 use Rattle.std.specs.Prelude.{slice_set}
 use Rattle.std.proofs.lemmas.List.{get_or-set_other, get_or-set_same, length-set, set-set}
 use Rattle.residency.proofs.Laws.MarkLemmas.{has_marks-marked, has_marks-touched}
@@ -22,7 +23,8 @@ use Rattle.engine.proofs.Framed.{beside_same, holds_none, told_copies, told_same
 use Rattle.engine.proofs.Others.{IsSeenAs, seen_same}
 use Rattle.engine.proofs.Outsiders.{step_is}
 use Rattle.engine.proofs.StandsOutside.{has_cache, has_own, idle, inside, is_own, runs, runs_there, view_is}
-use Rattle.engine.proofs.Stepped.{HasStepped, IsCacheOf, after_turn, freed_between, marked_formed, ready_between, shows_between}
+use Rattle.engine.proofs.Stepped.{HasStepped, IsCacheOf, after_turn, freed_between, marked_formed, ready_between}
+use Rattle.engine.proofs.Stepped.{shows_between}
 use Rattle.engine.proofs.Stepped.{stays_in_place}
 use Rattle.engine.specs.Acting.{ActsOutside, MayAct, next_action, sets_in}
 use Rattle.engine.specs.Beginning.{BeganIn, IsReadMarked}
@@ -52,7 +54,8 @@ use Rattle.write_hold.specs.Held.{Entry, held}
 abbrev pub entered : Swap → Hart → Hart
 entered swap hart =
     record hart {
-      section = Some (record { count = suc (armed_count hart.armed); word = swap.word; old = swap.old; new = swap.new });
+      section =
+          Some (record { count = suc (armed_count hart.armed); word = swap.word; old = swap.old; new = swap.new });
       armed = None;
       cache = touched (marked hart.cache (line_number swap.word) Read) (line_number swap.word);
       held_line = None;
@@ -80,14 +83,16 @@ pub opened_state : (state : ModelState) (h : ℕ) (swap : Swap) → h < length s
     (open_attempt state.config.mode h (hart_of (with_hart state h (entered swap (hart_of state h))) h))
     ≡ state_began state h swap
 opened_state state h swap below =
-    ap (λ hart. with_hart (with_hart state h (entered swap (hart_of state h))) h (open_attempt state.config.mode h hart))
+    ap (λ hart. with_hart (with_hart state h (entered swap (hart_of state h))) h
+    (open_attempt state.config.mode h hart))
     (hart_of-with_hart_same state h (entered swap (hart_of state h)) below)
     ∙ ap (λ harts. record state { harts = harts })
     (set-set state.harts h (entered swap (hart_of state h)) (began_hart state.config.mode h swap (hart_of state h)))
 
 -- where the hart keeps what is its own then, and the bus shows the state, the parts have come to be in it
-pub began_stepped : (old : Parts) (h : ℕ) (state : ModelState) (swap : Swap) (bus : BusState) (own : OwnState) → MayAct old h state →
-    Shows bus (state_began state h swap) → Tells old.pool bus (line_of state.committed) → IsOfHart old.pool (state_began state h swap) h own →
+pub began_stepped : (old : Parts) (h : ℕ) (state : ModelState) (swap : Swap) (bus : BusState) (own : OwnState) →
+    MayAct old h state → Shows bus (state_began state h swap) → Tells old.pool bus (line_of state.committed) →
+    IsOfHart old.pool (state_began state h swap) h own →
     HasStepped old (record old { bus = bus; harts = slice_set old.harts h own }) h (state_began state h swap)
 began_stepped old h state swap bus own may shows told is =
     let none = new_own no_hart 0 0 in
@@ -100,14 +105,18 @@ began_stepped old h state swap bus own may shows told is =
       told = told;
       beside = beside_same h old.pool;
       each = length-set old.harts h own;
-      own = subst (IsOfHart old.pool (state_began state h swap) h) (sym (get_or-set_same old.harts h own none may.exists)) is;
+      own =
+          subst (IsOfHart old.pool (state_began state h swap) h)
+          (sym (get_or-set_same old.harts h own none may.exists)) is;
       others = λ g other exists. subst (λ o. IsSeenAs (own_at old.harts g) o (view_of state.committed g))
           (sym (get_or-set_other old.harts h g own none other))
           (seen_same (own_at old.harts g) (view_of state.committed g) (may.is_in.harts g exists).view);
     }
 
-module _ (parts : Parts) (h : ℕ) (state : ModelState) (action : Action) (acts : ActsOutside parts h state) (is : action ≡ next_action parts h)
-    (swap : Swap) (rule : plain_rule state h ≡ Begins swap) (cache : Slotted) (read : IsReadMarked (sets_in parts h) cache (line_number swap.word)) where
+module _ (parts : Parts) (h : ℕ) (state : ModelState) (action : Action) (acts : ActsOutside parts h state)
+    (is : action ≡ next_action parts h)
+    (swap : Swap) (rule : plain_rule state h ≡ Begins swap) (cache : Slotted)
+    (read : IsReadMarked (sets_in parts h) cache (line_number swap.word)) where
   bits : has_marks cache.residency ≡ true
   bits =
       ap has_marks read.residency
@@ -118,7 +127,8 @@ module _ (parts : Parts) (h : ℕ) (state : ModelState) (action : Action) (acts 
   is_cache = record {
     ways = read.ways;
     residency =
-        ap (λ c. touched (marked c (line_number swap.word) Read) (line_number swap.word)) (sym (own_cache parts h state action acts is))
+        ap (λ c. touched (marked c (line_number swap.word) Read) (line_number swap.word))
+        (sym (own_cache parts h state action acts is))
         ∙ sym read.residency;
     live = sym (lives_unarmed cache.residency 0 refl ∙ bits);
   }
@@ -126,18 +136,22 @@ module _ (parts : Parts) (h : ℕ) (state : ModelState) (action : Action) (acts 
   -- the bus keeps the same of it, since it was not armed
   agent_stays : agent_of (entered swap (hart_of state h)) ≡ agent_of (record (hart_of state h) { held_line = None })
   agent_stays =
-      ap (λ armed. record (agent_of (record (hart_of state h) { held_line = None })) { armed = armed_count armed }) (sym acts.no_armed)
+      ap (λ armed. record (agent_of (record (hart_of state h) { held_line = None })) { armed = armed_count armed })
+      (sym acts.no_armed)
 
   -- the bus shows it, and is ready
   pub entered_shows : Shows (returned parts.bus h cache) (with_hart state h (entered swap (hart_of state h)))
   entered_shows =
-      shows_between parts.bus state _ h cache _ (entered swap (hart_of state h)) (has_cache parts h state acts) (freed_between parts h state acts.may)
+      shows_between parts.bus state _ h cache _ (entered swap (hart_of state h)) (has_cache parts h state acts)
+      (freed_between parts h state acts.may)
       agent_stays (sym (ap is_some acts.no_armed)) is_cache
 
   pub entered_ready : IsReady (returned parts.bus h cache)
   entered_ready =
-      ready_between parts.bus state _ h cache _ (has_cache parts h state acts) acts.may.ready (freed_between parts h state acts.may) refl refl
-      acts.may.free (marked_formed parts.bus h (line_number swap.word) cache (has_cache parts h state acts) acts.may.ready read)
+      ready_between parts.bus state _ h cache _ (has_cache parts h state acts) acts.may.ready
+      (freed_between parts h state acts.may) refl refl
+      acts.may.free (marked_formed parts.bus h (line_number swap.word) cache (has_cache parts h state acts)
+      acts.may.ready read)
       (λ plain.
       absurd (begins_not_plain parts h state action acts is swap rule (sym acts.may.is_in.shows.mode ∙ plain)))
 
@@ -158,28 +172,37 @@ module _ (parts : Parts) (hart : HartId) (state : ModelState) (acts : ActsOutsid
   section_then : (hart_of (state_began state h swap) h).section ≡ Some (begun swap)
   section_then =
       ap (λ hart. hart.section) hart_there
-      ∙ ap (λ armed. Some (record { count = suc (armed_count armed); word = swap.word; old = swap.old; new = swap.new })) acts.no_armed
+      ∙ ap
+      (λ armed. Some (record { count = suc (armed_count armed); word = swap.word; old = swap.old; new = swap.new }))
+      acts.no_armed
 
-  run_begins : KeepsRun state.committed h (begun swap) (release_of (put_of (present_at parts.harts h) rd.number swap.old))
+  run_begins : KeepsRun state.committed h (begun swap)
+      (release_of (put_of (present_at parts.harts h) rd.number swap.old))
       (hold_in parts.pool (own_at parts.harts h).section).entries
   run_begins =
       let action = actions.Amo op rd address source in
-      subst (KeepsRun state.committed h (begun swap) (release_of (put_of (present_at parts.harts h) rd.number swap.old)))
+      subst (KeepsRun state.committed h (begun swap)
+      (release_of (put_of (present_at parts.harts h) rd.number swap.old)))
       (sym (holds_none parts.pool (own_at parts.harts h).section.hold (idle parts h state acts).empty))
-      (subst (λ view. KeepsRun state.committed h (begun swap) (release_of (put_of view rd.number swap.old)) []) (sym (view_is parts h state acts))
-      (begins state.committed h swap op rd address source (runs_there parts h state acts) (swap_found parts h state action acts is swap rule)
+      (subst (λ view. KeepsRun state.committed h (begun swap) (release_of (put_of view rd.number swap.old)) [])
+      (sym (view_is parts h state acts))
+      (begins state.committed h swap op rd address source (runs_there parts h state acts)
+      (swap_found parts h state action acts is swap rule)
       (sym (next parts h state action acts is))))
 
-  own_began : IsOfHart parts.pool (state_began state h swap) h (began_own swap.word swap.old swap.new rd.number (own_at parts.harts h))
+  own_began : IsOfHart parts.pool (state_began state h swap) h
+      (began_own swap.word swap.old swap.new rd.number (own_at parts.harts h))
   own_began =
       let own = own_at parts.harts h in
       record {
         part =
             subst (HasOwn (began_own swap.word swap.old swap.new rd.number own)) (sym hart_there)
-            (began_is state.config.mode h swap rd.number own (hart_of state h) (has_own parts h state acts) acts.no_armed);
+            (began_is state.config.mode h swap rd.number own (hart_of state h)
+            (has_own parts h state acts) acts.no_armed);
         view = view_is parts h state acts;
         section =
-            subst (λ section. KeepsSectionOf parts.pool (state_began state h swap) h section (began_own swap.word swap.old swap.new rd.number own).section)
+            subst (λ section. KeepsSectionOf parts.pool (state_began state h swap) h section
+            (began_own swap.word swap.old swap.new rd.number own).section)
             (sym section_then)
             (record {
               run = run_begins;
@@ -193,7 +216,8 @@ module _ (parts : Parts) (hart : HartId) (state : ModelState) (acts : ActsOutsid
           running = runs parts h state acts;
           aligned = aligned;
           free = λ pool place low high.
-              subst (λ entries. held entries place ≡ None) (sym (holds_none pool own.section.hold (idle parts h state acts).empty))
+              subst (λ entries. held entries place ≡ None)
+              (sym (holds_none pool own.section.hold (idle parts h state acts).empty))
               (held_nothing place);
         };
         limit = (is_own parts h state acts).limit;
@@ -201,20 +225,23 @@ module _ (parts : Parts) (hart : HartId) (state : ModelState) (acts : ActsOutsid
         lent = (is_own parts h state acts).lent;
       }
 
-  pub began_in : (bus : BusState) → Shows bus (state_began state h swap) → Tells parts.pool bus (line_of state.committed) →
-      IsInState (record parts {
+  pub began_in : (bus : BusState) → Shows bus (state_began state h swap) →
+      Tells parts.pool bus (line_of state.committed) → IsInState (record parts {
         bus = bus;
         harts = slice_set parts.harts h (began_own swap.word swap.old swap.new rd.number (own_at parts.harts h));
       }) (by_plain_rule state h (Begins swap)).state
   unfolding by_plain_rule
   began_in bus shows told =
-      after_turn parts _ hart state (by_plain_rule state h (Begins swap)) acts.may (step_is parts hart state (Begins swap) acts rule)
+      after_turn parts _ hart state (by_plain_rule state h (Begins swap)) acts.may
+      (step_is parts hart state (Begins swap) acts rule)
       (stays_in_place state.committed)
-      (began_stepped parts h state swap bus (began_own swap.word swap.old swap.new rd.number (own_at parts.harts h)) acts.may shows told
+      (began_stepped parts h state swap bus (began_own swap.word swap.old swap.new rd.number (own_at parts.harts h))
+      acts.may shows told
       own_began)
 
 -- the parts after both calls
-pub after_began : (old mid : Parts) (bus : BusState) (hart : HartId) (state : ModelState) (acts : ActsOutside old hart.number state) (swap : Swap)
+pub after_began : (old mid : Parts) (bus : BusState) (hart : HartId) (state : ModelState)
+    (acts : ActsOutside old hart.number state) (swap : Swap)
     (op : AmoOp) (rd : Reg) (address source : ℕ) → actions.Amo op rd address source ≡ next_action old hart.number →
     plain_rule state hart.number ≡ Begins swap → swap.word % 4 ≡ 0 → BeganIn old mid hart.number swap rd.number →
     bus.copies ≡ mid.bus.copies →
@@ -224,7 +251,8 @@ pub after_began : (old mid : Parts) (bus : BusState) (hart : HartId) (state : Mo
 after_began old mid bus hart state acts swap op rd address source is rule aligned began copies shows =
     let h = hart.number in
     let before = with_hart state h (entered swap (hart_of state h)) in
-    let entered_now = entered_shows old h state (actions.Amo op rd address source) acts is swap rule began.cache began.marked in
+    let entered_now =
+    entered_shows old h state (actions.Amo op rd address source) acts is swap rule began.cache began.marked in
     subst (λ p. IsInState (record p { bus = bus }) (by_plain_rule state h (Begins swap)).state) (sym began.new_is)
     (began_in old hart state acts swap op rd address source is rule aligned bus
     (subst (Shows bus) (opened_state state h swap (inside old h state acts))
@@ -232,7 +260,9 @@ after_began old mid bus hart state acts swap op rd address source is rule aligne
     (told_copies old.pool (returned old.bus h began.cache) bus _ (copies ∙ ap (λ p. p.bus.copies) began.new_is)
     (entered_told old h state (actions.Amo op rd address source) acts is swap rule began.cache began.marked)))
 
-pub ready_began : (old mid : Parts) (h : ℕ) (state : ModelState) (action : Action) (acts : ActsOutside old h state) (swap : Swap) (rd : ℕ) →
-    action ≡ next_action old h → plain_rule state h ≡ Begins swap → BeganIn old mid h swap rd → IsReady mid.bus
+pub ready_began : (old mid : Parts) (h : ℕ) (state : ModelState) (action : Action) (acts : ActsOutside old h state)
+    (swap : Swap) (rd : ℕ) → action ≡ next_action old h → plain_rule state h ≡ Begins swap →
+    BeganIn old mid h swap rd → IsReady mid.bus
 ready_began old mid h state action acts swap rd is rule began =
-    subst (λ p. IsReady p.bus) (sym began.new_is) (entered_ready old h state action acts is swap rule began.cache began.marked)
+    subst (λ p. IsReady p.bus) (sym began.new_is)
+    (entered_ready old h state action acts is swap rule began.cache began.marked)

@@ -1,5 +1,6 @@
 -- an instruction has run outside of a section: the parts are in the definition's state
-use Rattle.std.proofs.Common.{◌≡◌, ◌≢◌, ◌∙◌, ℕ, ◌+◌, ◌++◌, ◌<◌, List, length, map, Option, Some, None, inl, inr, refl, ap, sym, subst, arith}
+use Rattle.std.proofs.Common.{◌≡◌, ◌≢◌, ◌∙◌, ℕ, ◌+◌, ◌++◌, ◌<◌, List, length, map, Option, Some, None, inl, inr, refl}
+use Rattle.std.proofs.Common.{ap, sym, subst, arith}
 use Rattle.std.specs.Prelude.{slice_set}
 use Rattle.std.proofs.lemmas.Bool.{cases_eq}
 use Rattle.std.proofs.lemmas.List.{get_or-map, get_or-set_other, get_or-set_same, length-map, length-set}
@@ -21,12 +22,15 @@ use Rattle.engine.proofs.Misses.{freed_each}
 use Rattle.engine.proofs.LentThere.{few_harts}
 use Rattle.engine.proofs.Others.{IsSeenAs, others_stay, seen_same, seen_unreserved}
 use Rattle.engine.proofs.Outsiders.{step_is, step_of}
-use Rattle.engine.proofs.RanAction.{hart_ran, leaves, ran_kept, ran_shows, ran_told, same_execution, section_none, state_ran, tells_piece}
-use Rattle.engine.proofs.StandsOutside.{has_cache, has_own, idle, inside, is_own, no_armed, no_live, runs_there, view_is}
+use Rattle.engine.proofs.RanAction.{hart_ran, leaves, ran_kept, ran_shows, ran_told, same_execution, section_none}
+use Rattle.engine.proofs.RanAction.{state_ran, tells_piece}
+use Rattle.engine.proofs.StandsOutside.{has_cache, has_own, idle, inside, is_own, no_armed, no_live, runs_there}
+use Rattle.engine.proofs.StandsOutside.{view_is}
 use Rattle.engine.specs.Acting.{ActsOutside, cache_in, next_action, sets_in}
 use Rattle.engine.specs.Effect.{piece_in, unreserved_on}
 use Rattle.engine.specs.Outside.{HasRunOver, execution_in}
-use Rattle.engine.specs.Parts.{IsInState, IsOfHart, KeepsReserved, KeepsSectionOf, Parts, StandsAs, hold_owner, own_at, present_at, room_in}
+use Rattle.engine.specs.Parts.{IsInState, IsOfHart, KeepsReserved, KeepsSectionOf, Parts, StandsAs, hold_owner, own_at}
+use Rattle.engine.specs.Parts.{present_at, room_in}
 use Rattle.hart_state.proofs.Laws.Harts.{ran_is, written_is}
 use Rattle.hart_state.specs.Deeds.{ran_own, unreserved_own}
 use Rattle.hart_state.specs.Lending.{with_view}
@@ -48,7 +52,8 @@ use Rattle.write_hold.specs.Slotted.{IsLent}
 -- what the hart keeps then
 abbrev pub own_ran : Parts → ℕ → ModelState → Action → OwnState
 own_ran parts h state action =
-    with_view (ran_own state h (own_at parts.harts h)) (view_after (execution_in parts h action) (present_at parts.harts h))
+    with_view (ran_own state h (own_at parts.harts h))
+    (view_after (execution_in parts h action) (present_at parts.harts h))
 
 -- the parts then, after what the action leaves was done
 abbrev pub parts_ran : Parts → ℕ → ModelState → Action → Pooled → Slotted → Parts
@@ -69,29 +74,34 @@ length-unreserved : (line : Option ℕ) (harts : List OwnState) → length (unre
 length-unreserved None harts = refl
 length-unreserved (Some line) harts = length-map harts (unreserved_own line)
 
-other_view : (state : FlatState) (h g : ℕ) (execution : Execution) (line : Option ℕ) → store_line (store_in execution) ≡ line → g ≢ h →
-    g < length state.harts → (own : OwnState) → (harts : List OwnState) → g < length harts → own ≡ own_at harts g →
-    committed_of own.section.marks ≡ view_of state g →
-    IsSeenAs own (own_at (unreserved_on line harts) g)
+other_view : (state : FlatState) (h g : ℕ) (execution : Execution) (line : Option ℕ) →
+    store_line (store_in execution) ≡ line → g ≢ h → g < length state.harts → (own : OwnState) →
+    (harts : List OwnState) → g < length harts → own ≡ own_at harts g →
+    committed_of own.section.marks ≡ view_of state g → IsSeenAs own (own_at (unreserved_on line harts) g)
     (view_of (applied state h (view_of state h) execution) g)
 other_view state h g execution line is other there own harts inside own_is view =
     subst (λ v. IsSeenAs own (own_at (unreserved_on line harts) g) v)
-    (sym (get_or-set_other (unreserved_by (store_in execution) state.harts) h g (view_after execution (view_of state h)) no_hart other))
-    (subst (λ l. IsSeenAs own (own_at (unreserved_on l harts) g) (view_of (record state { harts = unreserved_by (store_in execution) state.harts }) g))
+    (sym (get_or-set_other (unreserved_by (store_in execution) state.harts) h g
+    (view_after execution (view_of state h)) no_hart other))
+    (subst (λ l. IsSeenAs own (own_at (unreserved_on l harts) g)
+    (view_of (record state { harts = unreserved_by (store_in execution) state.harts }) g))
     is (by (store_in execution)))
   where
     by : (store : Option Store) →
-        IsSeenAs own (own_at (unreserved_on (store_line store) harts) g) (view_of (record state { harts = unreserved_by store state.harts }) g)
+        IsSeenAs own (own_at (unreserved_on (store_line store) harts) g)
+        (view_of (record state { harts = unreserved_by store state.harts }) g)
     by None = subst (λ new. IsSeenAs own new (view_of state g)) own_is (seen_same own (view_of state g) view)
     by (Some store) =
         let line = line_number store.address in
         subst (λ new. IsSeenAs own new (view_of (record state { harts = map (unreserved line) state.harts }) g))
-        (ap (unreserved_own line) own_is ∙ sym (get_or-map (unreserved_own line) harts g (new_own no_hart 0 0) (new_own no_hart 0 0) inside))
+        (ap (unreserved_own line) own_is
+        ∙ sym (get_or-map (unreserved_own line) harts g (new_own no_hart 0 0) (new_own no_hart 0 0) inside))
         (subst (IsSeenAs own (unreserved_own line own))
         (ap (unreserved line) view ∙ sym (get_or-map (unreserved line) state.harts g no_hart no_hart there))
         (seen_unreserved line own))
 
-module _ (parts : Parts) (hart : HartId) (state : ModelState) (action : Action) (acts : ActsOutside parts hart.number state)
+module _ (parts : Parts) (hart : HartId) (state : ModelState) (action : Action)
+    (acts : ActsOutside parts hart.number state)
     (is : action ≡ next_action parts hart.number) (place : IsInPlace parts.span (room_in parts) action)
     (none : lacking (permitted (cache_in parts hart.number)) (footprint action) ≡ None)
     (rule : plain_rule state hart.number ≡ Runs (touch_of (footprint action))) (pool : Pooled) (cache : Slotted)
@@ -119,7 +129,14 @@ module _ (parts : Parts) (hart : HartId) (state : ModelState) (action : Action) 
       left_own : LeavesOwner (hold_owner hart.number) parts.pool pool
       left_own =
           leaves_owner (sets_in parts hart.number).owner (hold_owner hart.number) parts.pool pool over.others
-          (λ same. absurd (omega (arith, same, acts.may.is_in.told.lent.owned hart.number (has_cache parts hart.number state acts))))
+          (λ same.
+          absurd
+          (omega (
+            arith,
+            same,
+            acts.may.is_in.told.lent.owned hart.number
+                (has_cache parts hart.number state acts),
+          )))
 
   own_stays : IsOfHart pool (state_ran state hart.number action) hart.number (own_ran parts hart.number state action)
   own_stays =
@@ -141,13 +158,17 @@ module _ (parts : Parts) (hart : HartId) (state : ModelState) (action : Action) 
             ap (λ mark. checkpoint_or mark view) (no_checkpoint parts hart.number state action acts)
             ∙ ap (λ v. view_after (execution_in parts hart.number action) v) (view_is parts hart.number state acts)
             ∙ ap (λ e. view_after e (view_of state.committed hart.number)) same
-            ∙ sym (own_view state.committed hart.number (runs-exists state.committed hart.number (runs_there parts hart.number state acts))
+            ∙ sym (own_view state.committed hart.number
+            (runs-exists state.committed hart.number (runs_there parts hart.number state acts))
             (runs_there parts hart.number state acts));
         section =
-            subst (λ section. KeepsSectionOf pool (state_ran state hart.number action) hart.number section (own_ran parts hart.number state action).section)
-            (sym (ap (λ k. k.section) hart_there ∙ section_none parts hart.number state action acts is place none pool cache over)) tt;
+            subst (λ section. KeepsSectionOf pool (state_ran state hart.number action) hart.number section
+            (own_ran parts hart.number state action).section)
+            (sym (ap (λ k. k.section) hart_there ∙ section_none parts hart.number state action acts is place none pool
+            cache over)) tt;
         armed =
-            subst (λ reserved. KeepsReserved (state_ran state hart.number action).committed hart.number reserved ran.marks.present) (sym armed) tt;
+            subst (λ reserved. KeepsReserved (state_ran state hart.number action).committed hart.number reserved
+            ran.marks.present) (sym armed) tt;
         stands =
             subst (λ l. StandsAs ran.marks ran.hold l ran.armed) (sym live)
             (subst (λ a. StandsAs ran.marks ran.hold None a) (sym armed)
@@ -162,29 +183,39 @@ module _ (parts : Parts) (hart : HartId) (state : ModelState) (action : Action) 
 
   same_length : length (parts_ran parts hart.number state action pool cache).harts ≡ length parts.harts
   same_length =
-      length-set (unreserved_on (written_line (footprint action)) parts.harts) hart.number (own_ran parts hart.number state action)
+      length-set (unreserved_on (written_line (footprint action)) parts.harts) hart.number
+      (own_ran parts hart.number state action)
       ∙ length-unreserved (written_line (footprint action)) parts.harts
 
   -- each other one
   other_stays : (g : ℕ) → g ≢ hart.number → g < length parts.harts →
-      IsOfHart pool (state_ran state hart.number action) g (own_at (parts_ran parts hart.number state action pool cache).harts g)
+      IsOfHart pool (state_ran state hart.number action) g
+      (own_at (parts_ran parts hart.number state action pool cache).harts g)
   unfolding by_plain_rule
   other_stays g other there =
       let turn = step_is parts hart state (Runs (touch_of (footprint action))) acts rule in
-      own_left parts.pool pool (state_ran state hart.number action) g (own_at (parts_ran parts hart.number state action pool cache).harts g)
-      (hold_beside hart.number g parts.pool pool (leaves parts hart.number state action acts is place none pool cache over)
+      own_left parts.pool pool (state_ran state hart.number action) g
+      (own_at (parts_ran parts hart.number state action pool cache).harts g)
+      (hold_beside hart.number g parts.pool pool
+      (leaves parts hart.number state action acts is place none pool cache over)
       (few_harts parts hart.number state acts.may) other)
-      (subst (λ t. IsOfHart parts.pool t.state g (own_at (parts_ran parts hart.number state action pool cache).harts g)) turn
-      (others_stay parts state (step_of hart) g (own_at (parts_ran parts hart.number state action pool cache).harts g) acts.may.reached acts.may.is_in refl
+      (subst (λ t. IsOfHart parts.pool t.state g (own_at (parts_ran parts hart.number state action pool cache).harts g))
+      turn
+      (others_stay parts state (step_of hart) g (own_at (parts_ran parts hart.number state action pool cache).harts g)
+      acts.may.reached acts.may.is_in refl
       other there
-      (subst (λ t. IsSeenAs (own_at parts.harts g) (own_at (parts_ran parts hart.number state action pool cache).harts g) (view_of t.state.committed g))
+      (subst (λ t. IsSeenAs (own_at parts.harts g)
+      (own_at (parts_ran parts hart.number state action pool cache).harts g) (view_of t.state.committed g))
       (sym turn)
       (subst (λ new. IsSeenAs (own_at parts.harts g) new (view_of (flat state.committed hart.number) g))
-      (sym (get_or-set_other (unreserved_on (written_line (footprint action)) parts.harts) hart.number g (own_ran parts hart.number state action)
+      (sym (get_or-set_other (unreserved_on (written_line (footprint action)) parts.harts) hart.number g
+      (own_ran parts hart.number state action)
       (new_own no_hart 0 0) other))
-      (subst (λ memory. IsSeenAs (own_at parts.harts g) (own_at (unreserved_on (written_line (footprint action)) parts.harts) g) (view_of memory g))
+      (subst (λ memory. IsSeenAs (own_at parts.harts g)
+      (own_at (unreserved_on (written_line (footprint action)) parts.harts) g) (view_of memory g))
       (sym done)
-      (other_view state.committed hart.number g (execution_of state.committed (view_of state.committed hart.number)) (written_line (footprint action))
+      (other_view state.committed hart.number g (execution_of state.committed (view_of state.committed hart.number))
+      (written_line (footprint action))
       (ap (λ e. store_line (store_in e)) (sym same)
       ∙ line_stored action (present_at parts.harts hart.number) (cached_byte (cache_in parts hart.number)))
       other (subst (λ n. g < n) acts.may.is_in.view_each there) (own_at parts.harts g) parts.harts there refl
@@ -208,7 +239,8 @@ module _ (parts : Parts) (hart : HartId) (state : ModelState) (action : Action) 
               subst (λ k. IsOfHart pool (state_ran state hart.number action) k
               (own_at (parts_ran parts hart.number state action pool cache).harts k)) (sym own)
               (subst (IsOfHart pool (state_ran state hart.number action) hart.number)
-              (sym (get_or-set_same (unreserved_on (written_line (footprint action)) parts.harts) hart.number (own_ran parts hart.number state action)
+              (sym (get_or-set_same (unreserved_on (written_line (footprint action)) parts.harts) hart.number
+              (own_ran parts hart.number state action)
               (new_own no_hart 0 0)
               (omega (arith, acts.may.exists, length-unreserved (written_line (footprint action)) parts.harts))))
               own_stays)
@@ -217,7 +249,8 @@ module _ (parts : Parts) (hart : HartId) (state : ModelState) (action : Action) 
         code = was.code ∙ sym keeps.code;
         output =
             ap (λ output. output ++ piece_in (lent pool cache) action) was.output
-            ∙ appended_after (lent pool cache) state.committed parts.bus.copies.first (room_in parts) parts.span action (present_at parts.harts hart.number)
+            ∙ appended_after (lent pool cache) state.committed parts.bus.copies.first (room_in parts) parts.span action
+            (present_at parts.harts hart.number)
             (cached_byte (cache_in parts hart.number)) was.shows.memory.first
             (was.shows.memory.first ∙ sym (ap (λ span. span.base) was.span)) place
             (tells_piece parts hart.number state action (lent pool cache) acts none over.has_run)

@@ -5,7 +5,8 @@ use Rattle.std.proofs.lemmas.Bool.Decides.{nat_tests}
 use Rattle.el_base.specs.declared.outcomes.Outcome.{Outcome}
 use Rattle.el_base.specs.declared.outcomes.Outcome.TheVariants as outcomes
 use Rattle.el_base.proofs.Laws.Tests.{first_of_both, second_of_both}
-use Rattle.el_model.specs.Armed.{ArmedRule, Continues, Elides, LetsGo, armed_rule, armed_turn, by_armed_rule, completes, exchange_rule, is_quiet}
+use Rattle.el_model.specs.Armed.{ArmedRule, Continues, Elides, LetsGo, armed_rule, armed_turn, by_armed_rule, completes}
+use Rattle.el_model.specs.Armed.{exchange_rule, is_quiet}
 use Rattle.el_model.specs.Armed.{may_grow, most_armed, shown_armed}
 use Rattle.el_model.specs.State.{Armed, ModelState, Turn}
 use Rattle.el_model.specs.Upcoming.{Swap, next_conditional}
@@ -22,8 +23,8 @@ pub turn_is : (state : ModelState) (h : ℕ) (armed : Armed) (rule : ArmedRule) 
 unfolding armed_turn
 turn_is state h armed rule is = ap (by_armed_rule state h armed) is
 
-pub elides_outcome : (state : ModelState) (h : ℕ) (armed : Armed) (swap : Swap) → armed_rule state h armed ≡ Elides swap →
-    outcomes.Began ≡ (armed_turn state h armed).outcome
+pub elides_outcome : (state : ModelState) (h : ℕ) (armed : Armed) (swap : Swap) →
+    armed_rule state h armed ≡ Elides swap → outcomes.Began ≡ (armed_turn state h armed).outcome
 unfolding by_armed_rule
 elides_outcome state h armed swap is = sym (ap (λ turn. turn.outcome) (turn_is state h armed (Elides swap) is))
 
@@ -42,7 +43,8 @@ pub record IsElided (state : ModelState) (h : ℕ) (armed : Armed) (swap : Swap)
   pub next : next_conditional (shown_armed state h armed) h ≡ Some swap
   pub word : swap.word ≡ armed.word
 
-pub elides_at : (state : ModelState) (h : ℕ) (armed : Armed) (swap : Swap) → armed_rule state h armed ≡ Elides swap → IsElided state h armed swap
+pub elides_at : (state : ModelState) (h : ℕ) (armed : Armed) (swap : Swap) → armed_rule state h armed ≡ Elides swap →
+    IsElided state h armed swap
 elides_at state h armed swap is = by (next_conditional (shown_armed state h armed) h) refl is
   where
     of : (found : Swap) → Elides found ≡ Elides swap → found ≡ swap
@@ -52,13 +54,13 @@ elides_at state h armed swap is = by (next_conditional (shown_armed state h arme
     quiet_not true is = cc
     quiet_not false is = cc
 
-    completed : (found : Swap) (test : Bool) → completes state h armed found ≡ test → (if test then Elides found else LetsGo) ≡ Elides swap →
-        (completes state h armed swap ≡ true) × (found ≡ swap)
+    completed : (found : Swap) (test : Bool) → completes state h armed found ≡ test →
+        (if test then Elides found else LetsGo) ≡ Elides swap → (completes state h armed swap ≡ true) × (found ≡ swap)
     completed found true done is = let same = of found is in (ap (completes state h armed) (sym same) ∙ done, same)
     completed found false done is = absurd (cc)
 
-    by : (found : Option Swap) → next_conditional (shown_armed state h armed) h ≡ found → exchange_rule state h armed found ≡ Elides swap →
-        IsElided state h armed swap
+    by : (found : Option Swap) → next_conditional (shown_armed state h armed) h ≡ found →
+        exchange_rule state h armed found ≡ Elides swap → IsElided state h armed swap
     by None next is = absurd (quiet_not (is_quiet (shown_armed state h armed) h && may_grow state armed) is)
     by (Some found) next is =
         let done = completed found (completes state h armed found) refl is in
@@ -70,7 +72,8 @@ pub record GoesOnQuietly (state : ModelState) (h : ℕ) (armed : Armed) : Type 0
   pub grows : may_grow state armed ≡ true
   pub fits : armed.count < most_armed
 
-pub continues_at : (state : ModelState) (h : ℕ) (armed : Armed) → armed_rule state h armed ≡ Continues → GoesOnQuietly state h armed
+pub continues_at : (state : ModelState) (h : ℕ) (armed : Armed) → armed_rule state h armed ≡ Continues →
+    GoesOnQuietly state h armed
 continues_at state h armed is = by (next_conditional (shown_armed state h armed) h) is
   where
     quiet : (test : Bool) → (is_quiet (shown_armed state h armed) h && may_grow state armed) ≡ test →
@@ -94,14 +97,16 @@ continues_at state h armed is = by (next_conditional (shown_armed state h armed)
         elided false is = cc
 
 -- a turn by a rule is that of a hart whose rule it is
-pub by_rule : (old new : Parts) (h : ℕ) (armed : Armed) (rule : ArmedRule) (turn : ModelState → Turn) (result : Outcome) →
-    ((from : ModelState) → ActsArmed old h from armed → armed_rule from h armed ≡ rule) →
-    TakesTurn (FollowsArmed old h armed rule) turn old new result → TakesTurn (λ from. ActsArmed old h from armed) turn old new result
+pub by_rule : (old new : Parts) (h : ℕ) (armed : Armed) (rule : ArmedRule) (turn : ModelState → Turn)
+    (result : Outcome) → ((from : ModelState) → ActsArmed old h from armed → armed_rule from h armed ≡ rule) →
+    TakesTurn (FollowsArmed old h armed rule) turn old new result →
+    TakesTurn (λ from. ActsArmed old h from armed) turn old new result
 by_rule old new h armed rule turn result is takes =
     as_well takes (λ from acts. record { acts = acts; rule_is = is from acts }) (λ from acts. refl)
 
 pub follows_somewhere : (parts : Parts) (h : ℕ) (armed : Armed) (rule : ArmedRule) → ArmedSomewhere parts h armed →
-    ((from : ModelState) → ActsArmed parts h from armed → armed_rule from h armed ≡ rule) → FollowsArmedSomewhere parts h armed rule
+    ((from : ModelState) → ActsArmed parts h from armed → armed_rule from h armed ≡ rule) →
+    FollowsArmedSomewhere parts h armed rule
 follows_somewhere parts h armed rule some is = record {
   from = some.from;
   follows = record { acts = some.acts; rule_is = is some.from some.acts };

@@ -1,5 +1,6 @@
 -- the parts after an armed section has gone on, and after it was let go
-use Rattle.std.proofs.Common.{◌≡◌, ◌≢◌, ◌∙◌, ℕ, suc, ◌+◌, ◌≤◌, ◌<◌, true, false, length, None, Some, is_some, refl, ap, sym, subst, arith}
+use Rattle.std.proofs.Common.{◌≡◌, ◌≢◌, ◌∙◌, ℕ, suc, ◌+◌, ◌≤◌, ◌<◌, true, false, length, None, Some, is_some, refl, ap}
+use Rattle.std.proofs.Common.{sym, subst, arith}
 use Rattle.std.specs.Prelude.{◌==◌, IfSome, IsSome, not, option_map, slice_set}
 use Rattle.std.proofs.lemmas.Bool.Decides.{nat_tests}
 use Rattle.std.proofs.lemmas.List.{get_or-set_other, get_or-set_same, length-set}
@@ -22,8 +23,10 @@ use Rattle.engine.proofs.Framed.{IsClearedThere, beside_same, told_copies, told_
 use Rattle.engine.proofs.KeptPrivate.{keeps_private}
 use Rattle.engine.proofs.PrivateCalls.{untouched}
 use Rattle.engine.proofs.Others.{IsSeenAs, seen_same}
-use Rattle.engine.proofs.Stepped.{HasStepped, IsBetween, IsCacheOf, StaysInPlace, after_turn, armed_turn_is, freed_between, noted_between}
-use Rattle.engine.proofs.Stepped.{ready_between, returned_between, runs, shows_committed, stays_in_place, told_committed}
+use Rattle.engine.proofs.Stepped.{HasStepped, IsBetween, IsCacheOf, StaysInPlace, after_turn, armed_turn_is}
+use Rattle.engine.proofs.Stepped.{freed_between, noted_between}
+use Rattle.engine.proofs.Stepped.{ready_between, returned_between, runs, shows_committed, stays_in_place}
+use Rattle.engine.proofs.Stepped.{told_committed}
 use Rattle.engine.specs.Acting.{MayAct, next_action, sets_in}
 use Rattle.engine.specs.Armed.{FollowsArmed}
 use Rattle.engine.specs.Private.{RanOver, kept_of}
@@ -52,12 +55,14 @@ use Rattle.snoop.specs.Returned.{returned}
 use Rattle.snoop.specs.Shows.{IsReady, BusState, Shows, Tells}
 
 -- the parts are in the state after a hart with an armed section has stepped, where it is this one
-pub stepped_armed : (old new : Parts) (hart : HartId) (from : ModelState) (armed : Armed) (rule : ArmedRule) (state : ModelState) →
-    FollowsArmed old hart.number armed rule from → (by_armed_rule from hart.number armed rule).state ≡ state →
-    StaysInPlace from.committed state.committed → HasStepped old new hart.number state → IsInState new (armed_turn from hart.number armed).state
+pub stepped_armed : (old new : Parts) (hart : HartId) (from : ModelState) (armed : Armed) (rule : ArmedRule)
+    (state : ModelState) → FollowsArmed old hart.number armed rule from →
+    (by_armed_rule from hart.number armed rule).state ≡ state → StaysInPlace from.committed state.committed →
+    HasStepped old new hart.number state → IsInState new (armed_turn from hart.number armed).state
 stepped_armed old new hart from armed rule state follows is stays stepped =
     let turn = ap (λ t. t.state) (turn_is from hart.number armed rule follows.rule_is) ∙ is in
-    after_turn old new hart from (armed_turn from hart.number armed) follows.acts.may (armed_turn_is old hart from armed follows.acts)
+    after_turn old new hart from (armed_turn from hart.number armed) follows.acts.may
+    (armed_turn_is old hart from armed follows.acts)
     (subst (λ s. StaysInPlace from.committed s.committed) (sym turn) stays)
     (subst (HasStepped old new hart.number) (sym turn) stepped)
 
@@ -66,7 +71,8 @@ others_kept : (old : Parts) (h : ℕ) (from : ModelState) (own : OwnState) (comm
     ((g : ℕ) → g ≢ h → view_of committed g ≡ view_of from.committed g) → (g : ℕ) → g ≢ h → g < length old.harts →
     IsSeenAs (own_at old.harts g) (own_at (slice_set old.harts h own) g) (view_of committed g)
 others_kept old h from own committed may same g other exists =
-    subst (λ o. IsSeenAs (own_at old.harts g) o (view_of committed g)) (sym (get_or-set_other old.harts h g own (new_own no_hart 0 0) other))
+    subst (λ o. IsSeenAs (own_at old.harts g) o (view_of committed g))
+    (sym (get_or-set_other old.harts h g own (new_own no_hart 0 0) other))
     (seen_same (own_at old.harts g) (view_of committed g) ((may.is_in.harts g exists).view ∙ sym (same g other)))
 
 not_zero : (n : ℕ) → 1 ≤ n → true ≡ not (n == 0)
@@ -83,8 +89,10 @@ by_continues : (from : ModelState) (h : ℕ) (armed : Armed) →
 unfolding by_armed_rule
 by_continues from h armed = refl
 
-module _ (old : Parts) (hart : HartId) (armed : Armed) (from : ModelState) (follows : FollowsArmed old hart.number armed Continues from)
-    (action : Action) (is : action ≡ next_action old hart.number) (pool : Pooled) (cache : Slotted) (section : SectionState)
+module _ (old : Parts) (hart : HartId) (armed : Armed) (from : ModelState)
+    (follows : FollowsArmed old hart.number armed Continues from)
+    (action : Action) (is : action ≡ next_action old hart.number) (pool : Pooled) (cache : Slotted)
+    (section : SectionState)
     (over : RanOver old.pool pool (sets_in old hart.number) cache (kept_of old hart.number) section action) where
   abbrev h : ℕ
   h = hart.number
@@ -106,19 +114,23 @@ module _ (old : Parts) (hart : HartId) (armed : Armed) (from : ModelState) (foll
     residency = sym (same_residency ∙ (keeps_private old h from armed follows.acts).cache);
     live =
         ap is_some follows.acts.no_section
-        ∙ sym (lives_armed cache.residency (armed_count (hart_of from h).armed) (omega (arith, some_count, count_there)));
+        ∙ sym (lives_armed cache.residency (armed_count (hart_of from h).armed)
+        (omega (arith, some_count, count_there)));
   }
 
-  given_back : IsBetween (returned old.bus h cache) from (with_hart from h (held_nothing from h)) h (held_nothing from h)
+  given_back : IsBetween (returned old.bus h cache) from (with_hart from h (held_nothing from h)) h
+      (held_nothing from h)
   given_back =
-      returned_between old.bus from _ h cache (held_nothing from h) (held_nothing from h) (inside_caches old h from follows.acts.may)
+      returned_between old.bus from _ h cache (held_nothing from h) (held_nothing from h)
+      (inside_caches old h from follows.acts.may)
       (freed_between old h from follows.acts.may) refl refl is_cache
 
   pub continued_ready : IsReady (returned old.bus h cache)
   continued_ready =
       let may = follows.acts.may in
       let formed = may.ready.well_formed h (inside_caches old h from may) in
-      ready_between old.bus from _ h cache (held_nothing from h) (inside_caches old h from may) may.ready (freed_between old h from may) refl refl
+      ready_between old.bus from _ h cache (held_nothing from h) (inside_caches old h from may) may.ready
+      (freed_between old h from may) refl refl
       may.free
       (subst (λ ways. IsWellFormed ways cache.residency) (sym over.covers.ways)
       (subst (IsWellFormed (sets_in old h).ways) (sym same_residency) formed))
@@ -127,7 +139,8 @@ module _ (old : Parts) (hart : HartId) (armed : Armed) (from : ModelState) (foll
   continued_told : Tells pool (returned old.bus h cache) (line_of from.committed)
   continued_told =
       let may = follows.acts.may in
-      told_moved old.pool pool old.bus h cache _ may.is_in.told (inside_caches old h from may) over.still.cache_owner over.still.both.cache_lent
+      told_moved old.pool pool old.bus h cache _ may.is_in.told (inside_caches old h from may) over.still.cache_owner
+      over.still.both.cache_lent
       (still_beside old h from pool cache section.hold may over.still) over.covers.copies
 
   abbrev now : Hart
@@ -150,9 +163,12 @@ module _ (old : Parts) (hart : HartId) (armed : Armed) (from : ModelState) (foll
 
     noted_now : Shows bus state
     noted_now =
-        (noted_between (returned old.bus h cache) bus from _ h (armed.count + 1) (held_nothing from h) now given_back noted
-        (ap (λ n. record (agent_of (held_nothing from h)) { armed = n }) one_more) refl (not_zero (armed.count + 1) (omega arith))
-        (ap is_some follows.acts.no_section ∙ sym (lives_armed (hart_of from h).cache (armed.count + 1) (omega arith)))).shows
+        (noted_between (returned old.bus h cache) bus from _ h (armed.count + 1) (held_nothing from h) now
+        given_back noted
+        (ap (λ n. record (agent_of (held_nothing from h)) { armed = n }) one_more) refl
+        (not_zero (armed.count + 1) (omega arith))
+        (ap is_some follows.acts.no_section
+        ∙ sym (lives_armed (hart_of from h).cache (armed.count + 1) (omega arith)))).shows
       where
         one_more : suc armed.count ≡ armed.count + 1
         one_more = omega arith
@@ -169,10 +185,13 @@ module _ (old : Parts) (hart : HartId) (armed : Armed) (from : ModelState) (foll
         let present : section.marks.present ≡ view_after (perform (action_of from.committed view) view (λ a. 0)) view =
         ap (λ marks. marks.present) (ran.marks (λ a. 0))
         ∙ ap (λ a. view_after (perform a view (λ b. 0)) view) (is ∙ same_action old h from follows.acts.may) in
-        let goes = armed_goes from.committed h _ armed k.old view (λ a. 0) k.run k.keeps (continues_at from h armed follows.rule_is).quiet in
+        let goes =
+        armed_goes from.committed h _ armed k.old view (λ a. 0) k.run k.keeps
+        (continues_at from h armed follows.rule_is).quiet in
         let keeps : KeepsArmed from.committed h (record armed { count = armed.count + 1 }) k.old section.marks.present =
         subst (KeepsArmed from.committed h (record armed { count = armed.count + 1 }) k.old) (sym present) goes in
-        let count : Some (record armed { count = armed.count + 1 }) ≡ now.armed = ap (λ n. Some (record armed { count = n })) (omega arith) in
+        let count : Some (record armed { count = armed.count + 1 }) ≡ now.armed =
+        ap (λ n. Some (record armed { count = n })) (omega arith) in
         let part : HasOwn own now = record {
           section = ran.live ∙ sym follows.acts.no_section;
           armed = ap (option_map (λ r. r.armed)) armed_then ∙ count;
@@ -198,7 +217,9 @@ module _ (old : Parts) (hart : HartId) (armed : Armed) (from : ModelState) (foll
         record {
           part = subst (HasOwn own) (sym here) part;
           view = ap committed_of (ran.marks (λ a. 0)) ∙ committed_beside _ _ _ k.stands.mark ∙ was.view;
-          section = subst (λ live. KeepsSectionOf pool state h live section) (sym (ap (λ hart. hart.section) here ∙ follows.acts.no_section)) tt;
+          section =
+              subst (λ live. KeepsSectionOf pool state h live section)
+              (sym (ap (λ hart. hart.section) here ∙ follows.acts.no_section)) tt;
           armed = subst (λ r. KeepsReserved from.committed h r section.marks.present) (sym armed_then) keeps;
           stands =
               subst (λ live. StandsAs section.marks section.hold live section.armed) (sym ran.live)
@@ -216,10 +237,12 @@ module _ (old : Parts) (hart : HartId) (armed : Armed) (from : ModelState) (foll
         }
 
     pub continued_in :
-        IsInState (record old { pool = pool; bus = bus; harts = slice_set old.harts h own }) (armed_turn from h armed).state
+        IsInState (record old { pool = pool; bus = bus; harts = slice_set old.harts h own })
+        (armed_turn from h armed).state
     continued_in =
         let may = follows.acts.may in
-        stepped_armed old _ hart from armed Continues state follows (by_continues from h armed) (stays_in_place from.committed)
+        stepped_armed old _ hart from armed Continues state follows (by_continues from h armed)
+        (stays_in_place from.committed)
         (record {
           config = refl;
           span = refl;
@@ -229,7 +252,9 @@ module _ (old : Parts) (hart : HartId) (armed : Armed) (from : ModelState) (foll
           told = told_copies pool (returned old.bus h cache) bus _ noted.copies_stay continued_told;
           beside = still_beside old h from pool cache section.hold may over.still;
           each = length-set old.harts h own;
-          own = subst (IsOfHart pool state h) (sym (get_or-set_same old.harts h own (new_own no_hart 0 0) may.exists)) own_now;
+          own =
+              subst (IsOfHart pool state h) (sym (get_or-set_same old.harts h own (new_own no_hart 0 0) may.exists))
+              own_now;
           others = others_kept old h from own from.committed may (λ g other. refl);
         })
 
@@ -241,13 +266,16 @@ abbrev freed_of : ModelState → ℕ → Hart
 freed_of from h = let_go_hart (view_of from.committed h).pc (record (hart_of from h) { held_line = None })
 
 abbrev state_freed : ModelState → ℕ → Armed → ModelState
-state_freed from h armed = record (with_hart from h (freed_of from h)) { committed = alone from.committed h armed.count }
+state_freed from h armed =
+    record (with_hart from h (freed_of from h)) { committed = alone from.committed h armed.count }
 
-by_lets_go : (from : ModelState) (h : ℕ) (armed : Armed) → (by_armed_rule from h armed LetsGo).state ≡ state_freed from h armed
+by_lets_go : (from : ModelState) (h : ℕ) (armed : Armed) →
+    (by_armed_rule from h armed LetsGo).state ≡ state_freed from h armed
 unfolding by_armed_rule
 by_lets_go from h armed = refl
 
-module _ (old : Parts) (hart : HartId) (armed : Armed) (from : ModelState) (follows : FollowsArmed old hart.number armed LetsGo from)
+module _ (old : Parts) (hart : HartId) (armed : Armed) (from : ModelState)
+    (follows : FollowsArmed old hart.number armed LetsGo from)
     (cache : Slotted) (clears : IsClearedThere (sets_in old hart.number) cache) where
   abbrev g : ℕ
   g = hart.number
@@ -262,20 +290,26 @@ module _ (old : Parts) (hart : HartId) (armed : Armed) (from : ModelState) (foll
   unmarked_cache = record {
     ways = clears.ways;
     residency = ap (λ c. cleared c) (sym (keeps_private old g from armed follows.acts).cache) ∙ sym clears.residency;
-    live = ap is_some follows.acts.no_section ∙ sym (lives_armed cache.residency (armed_count (hart_of from g).armed) armed_there);
+    live =
+        ap is_some follows.acts.no_section
+        ∙ sym (lives_armed cache.residency (armed_count (hart_of from g).armed) armed_there);
   }
 
-  pub unmarked_back : IsBetween (returned old.bus g cache) from (with_hart from g (unmarked_of from g)) g (unmarked_of from g)
+  pub unmarked_back : IsBetween (returned old.bus g cache) from (with_hart from g (unmarked_of from g)) g
+      (unmarked_of from g)
   unmarked_back =
-      returned_between old.bus from _ g cache (held_nothing from g) (unmarked_of from g) (inside_caches old g from follows.acts.may)
+      returned_between old.bus from _ g cache (held_nothing from g) (unmarked_of from g)
+      (inside_caches old g from follows.acts.may)
       (freed_between old g from follows.acts.may) refl refl unmarked_cache
 
   pub unmarked_ready : IsReady (returned old.bus g cache)
   unmarked_ready =
       let may = follows.acts.may in
       let inside = inside_caches old g from may in
-      let formed = well_formed-cleared (sets_in old g).ways (sets_in old g).residency (may.ready.well_formed g inside) in
-      ready_between old.bus from _ g cache (held_nothing from g) inside may.ready (freed_between old g from may) refl refl may.free
+      let formed =
+      well_formed-cleared (sets_in old g).ways (sets_in old g).residency (may.ready.well_formed g inside) in
+      ready_between old.bus from _ g cache (held_nothing from g) inside may.ready (freed_between old g from may)
+      refl refl may.free
       (subst (λ ways. IsWellFormed ways cache.residency) (sym clears.ways)
       (subst (IsWellFormed (sets_in old g).ways) (sym clears.residency) formed))
       (λ plain. ap has_marks clears.residency ∙ unmarked-cleared (sets_in old g).residency)
@@ -291,7 +325,8 @@ module _ (old : Parts) (hart : HartId) (armed : Armed) (from : ModelState) (foll
     freed_shows =
         shows_committed bus (with_hart from g (freed_of from g)) (alone from.committed g armed.count)
         (record { base = keeps_rest.rest.base; bytes = keeps_rest.rest.bytes })
-        (noted_between (returned old.bus g cache) bus from _ g 0 (unmarked_of from g) (freed_of from g) unmarked_back noted refl refl refl
+        (noted_between (returned old.bus g cache) bus from _ g 0 (unmarked_of from g) (freed_of from g) unmarked_back
+        noted refl refl refl
         (ap is_some follows.acts.no_section
         ∙ sym (lives_unarmed (cleared (hart_of from g).cache) 0 refl ∙ unmarked-cleared (hart_of from g).cache))).shows
 
@@ -323,7 +358,8 @@ module _ (old : Parts) (hart : HartId) (armed : Armed) (from : ModelState) (foll
         }
 
     pub let_go_in :
-        IsInState (record old { bus = bus; harts = slice_set old.harts g freed_own_now }) (armed_turn from g armed).state
+        IsInState (record old { bus = bus; harts = slice_set old.harts g freed_own_now })
+        (armed_turn from g armed).state
     let_go_in =
         let may = follows.acts.may in
         stepped_armed old _ hart from armed LetsGo (state_freed from g armed) follows (by_lets_go from g armed)

@@ -1,5 +1,6 @@
 -- the parts after an instruction of a section was buffered
-use Rattle.std.proofs.Common.{◌≡◌, ◌∙◌, ℕ, ◌+◌, ◌≤◌, ◌<◌, ◌||◌, true, List, length, Option, Some, None, is_some, refl, ap, sym, subst}
+use Rattle.std.proofs.Common.{◌≡◌, ◌∙◌, ℕ, ◌+◌, ◌≤◌, ◌<◌, ◌||◌, true, List, length, Option, Some, None, is_some, refl}
+use Rattle.std.proofs.Common.{ap, sym, subst}
 use Rattle.std.specs.Prelude.{IfSome, IsSome}
 use Rattle.std.proofs.lemmas.List.{get_or-set_other, get_or-set_same, length-set}
 use Rattle.residency.specs.Cache.{has_marks, is_resident, write_bits_of}
@@ -15,7 +16,8 @@ use Rattle.el_model.specs.InSection.{Buffers, buffered_hart, covered, section_tu
 use Rattle.el_model.specs.Plain.{armed_count}
 use Rattle.el_model.specs.State.{Hart, ModelState, Section, cache_of, hart_of, with_hart}
 use Rattle.el_model.specs.Upcoming.{Touch, touch_of}
-use Rattle.engine.proofs.Buffers.{CanBuffer, are_few, buffers_turn, can_buffer, does_as_shown, is_counted, is_there, may_run}
+use Rattle.engine.proofs.Buffers.{CanBuffer, are_few, buffers_turn, can_buffer, does_as_shown, is_counted, is_there}
+use Rattle.engine.proofs.Buffers.{may_run}
 use Rattle.engine.proofs.Framed.{told_moved}
 use Rattle.engine.proofs.LentThere.{inside_caches, lent_there, still_beside}
 use Rattle.engine.proofs.Covering.{IsThere, covered_twice, formed_covered, marked_covered, marks_covered}
@@ -28,7 +30,8 @@ use Rattle.engine.proofs.Stepped.{ready_between, shows_between, stays_in_place}
 use Rattle.engine.specs.Acting.{MayAct, freed, next_action, sets_in}
 use Rattle.engine.specs.Covered.{HasItsBitNow, IsTouchedThere}
 use Rattle.engine.specs.Inside.{FollowsRule}
-use Rattle.engine.specs.Parts.{IsInState, IsOfHart, KeepsReserved, KeepsSection, KeepsSectionOf, Parts, StandsAs, own_at}
+use Rattle.engine.specs.Parts.{IsInState, IsOfHart, KeepsReserved, KeepsSection, KeepsSectionOf, Parts, StandsAs}
+use Rattle.engine.specs.Parts.{own_at}
 use Rattle.engine.specs.Private.{IsLentStill, MayRunPrivately, RanOver, kept_of, with_own}
 use Rattle.hart_state.proofs.Laws.Harts.{buffered_is}
 use Rattle.hart_state.specs.Deeds.{buffered_own}
@@ -57,20 +60,25 @@ abbrev longer : Section → Section
 longer section = record section { count = section.count + 1 }
 
 -- what was run, over the cache with the bit that it wants, and the cache and the pool then
-pub record RanInside (old : Parts) (h : ℕ) (section : Section) (touch : Option Touch) (mid : Slotted) (pool : Pooled) (cache : Slotted) (action : Action)
+pub record RanInside (old : Parts) (h : ℕ) (section : Section) (touch : Option Touch) (mid : Slotted) (pool : Pooled)
+    (cache : Slotted) (action : Action)
     (new : SectionState) : Type 0 where
   pub bit : HasItsBitNow (sets_in old h) mid touch
-  pub ran : HasRun old.pool pool (kept_of old h) new section (run_of old.pool (kept_of old h) section (lent old.pool mid) action)
+  pub ran : HasRun old.pool pool (kept_of old h) new section
+      (run_of old.pool (kept_of old h) section (lent old.pool mid) action)
   pub covers : IsCoveredIn (lent old.pool mid) (lent pool cache) (touch_of (footprint action))
   pub still : IsLentStill old.pool pool (sets_in old h) cache (kept_of old h).hold new.hold
 
-pub committed_beside : (mark : Option HartView) (first second : HartView) → IsSome mark → checkpoint_or mark first ≡ checkpoint_or mark second
+pub committed_beside : (mark : Option HartView) (first second : HartView) → IsSome mark →
+    checkpoint_or mark first ≡ checkpoint_or mark second
 committed_beside None first second some = absurd (cc)
 committed_beside (Some mark) first second some = refl
 
-module _ (old : Parts) (hart : HartId) (from : ModelState) (section : Section) (touch : Option Touch) (mid : Slotted) (pool : Pooled) (cache : Slotted)
+module _ (old : Parts) (hart : HartId) (from : ModelState) (section : Section) (touch : Option Touch) (mid : Slotted)
+    (pool : Pooled) (cache : Slotted)
     (action : Action) (new : SectionState) (follows : FollowsRule old hart.number from section (Buffers touch))
-    (is : action ≡ next_action old hart.number) (ran : RanInside old hart.number section touch mid pool cache action new) where
+    (is : action ≡ next_action old hart.number)
+    (ran : RanInside old hart.number section touch mid pool cache action new) where
   abbrev h : ℕ
   h = hart.number
 
@@ -81,19 +89,23 @@ module _ (old : Parts) (hart : HartId) (from : ModelState) (section : Section) (
   can = can_buffer old h from section touch mid follows ran.bit
 
   same_run : run_of old.pool (kept_of old h) section (lent old.pool mid) action
-      ≡ section_execution from.committed section (kept_of old h).marks.present (hold_in old.pool (kept_of old h)).entries
+      ≡ section_execution from.committed section (kept_of old h).marks.present
+      (hold_in old.pool (kept_of old h)).entries
       (cached_byte (lent old.pool mid))
   same_run = does_as_shown old h from section touch mid action follows.inside can is
 
   -- its run is kept with one instruction more
-  goes : GoesOn from.committed h mid.residency section new.marks.present (hold_in old.pool (kept_of old h)) (hold_in pool new)
+  goes : GoesOn from.committed h mid.residency section new.marks.present (hold_in old.pool (kept_of old h))
+      (hold_in pool new)
   goes =
       let view = (kept_of old h).marks.present in
       subst (λ v. GoesOn from.committed h mid.residency section v (hold_in old.pool (kept_of old h)) (hold_in pool new))
       (sym (ap (λ marks. marks.present) ran.ran.marks ∙ ap (λ execution. view_after execution view) same_run))
-      (goes_on from.committed h mid.residency mid.residency section view (hold_in old.pool (kept_of old h)) (hold_in pool new)
+      (goes_on from.committed h mid.residency mid.residency section view (hold_in old.pool (kept_of old h))
+      (hold_in pool new)
       (cached_byte (lent old.pool mid)) can.is_kept.run can.is_kept.keeps can.agree can.step
-      (subst (λ execution. HoldsAfter (store_in execution) (hold_in old.pool (kept_of old h)) (hold_in pool new)) same_run ran.ran.hold))
+      (subst (λ execution. HoldsAfter (store_in execution) (hold_in old.pool (kept_of old h)) (hold_in pool new))
+      same_run ran.ran.hold))
 
   still_live : IsLive new.marks new.hold (longer section)
   still_live =
@@ -101,7 +113,8 @@ module _ (old : Parts) (hart : HartId) (from : ModelState) (section : Section) (
       let calls = may_run old h from section touch mid action follows.inside can is in
       subst (λ marks. IsLive marks new.hold (longer section)) (sym ran.ran.marks)
       (stays_live old.pool pool kept.marks kept.hold new.hold section (section.count + 1) action
-      (section_byte (hold_in old.pool kept).entries section.word section.new (cached_byte (lent old.pool mid))) _ can.kept.stands calls.goes_on
+      (section_byte (hold_in old.pool kept).entries section.word section.new (cached_byte (lent old.pool mid))) _
+      can.kept.stands calls.goes_on
       calls.unmixed refl ran.ran.hold)
 
   abbrev now : Hart
@@ -116,7 +129,8 @@ module _ (old : Parts) (hart : HartId) (from : ModelState) (section : Section) (
       let was = may.is_in.harts h may.exists in
       let below = misses.is_there old from h may in
       let here = hart_of-with_hart_same from h now below in
-      let part : HasOwn own (record (hart_of from h) { held_line = None }) = subst (HasOwn own) (freed_here from h below) was.part in
+      let part : HasOwn own (record (hart_of from h) { held_line = None }) =
+      subst (HasOwn own) (freed_here from h below) was.part in
       let kept : KeepsSection pool state h (longer section) new = record {
         run = goes.keeps;
         marked = subst (λ c. HoldsMarked c (hold_in pool new).entries) (sym (ap (λ hart. hart.cache) here))
@@ -125,8 +139,10 @@ module _ (old : Parts) (hart : HartId) (from : ModelState) (section : Section) (
       } in
       record {
         part = subst (HasOwn (buffered_own new own)) (sym here)
-            (buffered_is section touch new own (record (hart_of from h) { held_line = None }) part ran.ran.live ran.ran.armed can.kept.unarmed_there);
-        view = ap committed_of ran.ran.marks ∙ committed_beside own.section.marks.mark _ _ can.kept.stands.mark ∙ was.view;
+            (buffered_is section touch new own (record (hart_of from h) { held_line = None }) part ran.ran.live
+            ran.ran.armed can.kept.unarmed_there);
+        view =
+            ap committed_of ran.ran.marks ∙ committed_beside own.section.marks.mark _ _ can.kept.stands.mark ∙ was.view;
         section = subst (λ live. KeepsSectionOf pool state h live new) (sym (ap (λ hart. hart.section) here)) kept;
         armed = subst (λ armed. KeepsReserved state.committed h armed new.marks.present) (sym ran.ran.armed) tt;
         stands = subst (λ l. StandsAs new.marks new.hold l new.armed) (sym ran.ran.live)
@@ -138,7 +154,8 @@ module _ (old : Parts) (hart : HartId) (from : ModelState) (section : Section) (
 
   residency_then : cache.residency ≡ covered (cache_of from h) touch
   residency_then =
-      let touches = next.next_touch action _ h (next_inside old h from section action follows.inside is) ∙ can.may.touches in
+      let touches =
+      next.next_touch action _ h (next_inside old h from section action follows.inside is) ∙ can.may.touches in
       ran.covers.residency
       ∙ ap (covered mid.residency) touches
       ∙ ap (λ c. covered c touch) can.residency
@@ -149,7 +166,8 @@ module _ (old : Parts) (hart : HartId) (from : ModelState) (section : Section) (
     ways = ran.covers.ways ∙ ran.bit.ways;
     residency = sym residency_then;
     live =
-        sym (ap (λ armed. lives cache.residency (armed_count armed)) can.kept.unarmed_there ∙ lives_unarmed cache.residency 0 refl
+        sym (ap (λ armed. lives cache.residency (armed_count armed)) can.kept.unarmed_there
+        ∙ lives_unarmed cache.residency 0 refl
         ∙ ap has_marks residency_then ∙ marks_covered (cache_of from h) touch _ can.kept.run.read);
   }
 
@@ -157,14 +175,17 @@ module _ (old : Parts) (hart : HartId) (from : ModelState) (section : Section) (
   buffered_ready =
       let inside = inside_caches old h from may in
       let formed = subst (IsWellFormed (sets_in old h).ways) can.kept.cache (may.ready.well_formed h inside) in
-      ready_between old.bus from (freed from h) h cache _ inside may.ready (freed_between old h from may) refl refl may.free
+      ready_between old.bus from (freed from h) h cache _ inside may.ready (freed_between old h from may)
+      refl refl may.free
       (subst (λ ways. IsWellFormed ways cache.residency) (sym is_cache.ways)
-      (subst (IsWellFormed (sets_in old h).ways) (sym residency_then) (formed_covered (sets_in old h).ways (cache_of from h) touch formed)))
+      (subst (IsWellFormed (sets_in old h).ways) (sym residency_then)
+      (formed_covered (sets_in old h).ways (cache_of from h) touch formed)))
       (λ plain.
       absurd (read_not_plain old.bus h (line_number section.word) (cache_of from h) may.ready can.kept.cache
       can.kept.run.read plain))
 
-  pub buffered_in : IsInState (with_own old h pool cache (buffered_own new (own_at old.harts h))) (section_turn from h section).state
+  pub buffered_in : IsInState (with_own old h pool cache (buffered_own new (own_at old.harts h)))
+      (section_turn from h section).state
   buffered_in =
       let own = buffered_own new (own_at old.harts h) in
       let then_parts = with_own old h pool cache own in
@@ -177,9 +198,12 @@ module _ (old : Parts) (hart : HartId) (from : ModelState) (section : Section) (
         span = refl;
         code = refl;
         output = refl;
-        shows = shows_between old.bus from (freed from h) h cache _ now inside (freed_between old h from may) refl refl is_cache;
+        shows =
+            shows_between old.bus from (freed from h) h cache _ now inside (freed_between old h from may)
+            refl refl is_cache;
         told =
-            told_moved old.pool pool old.bus h cache _ may.is_in.told inside ran.still.cache_owner ran.still.both.cache_lent beside
+            told_moved old.pool pool old.bus h cache _ may.is_in.told inside ran.still.cache_owner
+            ran.still.both.cache_lent beside
             (λ line. ran.covers.copies line ∙ ran.bit.keeps.copies old.pool line);
         beside = beside;
         each = length-set old.harts h own;
@@ -193,11 +217,13 @@ module _ (old : Parts) (hart : HartId) (from : ModelState) (section : Section) (
       (subst (λ t. HasStepped old then_parts h t.state) (sym turn) stepped)
 
 -- the bit first, and then the run
-pub some_live : (live : Option Section) (section : Section) (P : Section → Type 0) → live ≡ Some section → P section → IfSome live P
+pub some_live : (live : Option Section) (section : Section) (P : Section → Type 0) → live ≡ Some section →
+    P section → IfSome live P
 some_live live section P is told = subst (λ l. IfSome l P) (sym is) told
 
 module _ (old : Parts) (hart : HartId) (from : ModelState) (section : Section) (touch : Option Touch) (action : Action)
-    (follows : FollowsRule old hart.number from section (Buffers touch)) (is : action ≡ next_action old hart.number) (mid : Slotted)
+    (follows : FollowsRule old hart.number from section (Buffers touch))
+    (is : action ≡ next_action old hart.number) (mid : Slotted)
     (bit : HasItsBitNow (sets_in old hart.number) mid touch) where
   abbrev k : ℕ
   k = hart.number
@@ -230,14 +256,18 @@ module _ (old : Parts) (hart : HartId) (from : ModelState) (section : Section) (
         };
         either = ap (λ l. is_some l || is_some (kept_of old k).armed) live;
         buffered =
-            subst (λ sets. IfSome (kept_of old k).live (λ s. MayBuffer old.pool (kept_of old k) s (lent old.pool sets) action)) (sym sets_are)
-            (some_live (kept_of old k).live section (λ s. MayBuffer old.pool (kept_of old k) s (lent old.pool mid) action) live
+            subst (λ sets. IfSome (kept_of old k).live
+            (λ s. MayBuffer old.pool (kept_of old k) s (lent old.pool sets) action)) (sym sets_are)
+            (some_live (kept_of old k).live section
+            (λ s. MayBuffer old.pool (kept_of old k) s (lent old.pool mid) action) live
             (may_run old k from section touch mid action follows.inside could is));
         counted =
-            some_live (kept_of old k).live section (λ s. s.count + 1 < 4294967296) live (is_counted old k from section follows.inside);
+            some_live (kept_of old k).live section (λ s. s.count + 1 < 4294967296) live
+            (is_counted old k from section follows.inside);
         quiet = subst (λ armed. IfSome armed (λ reserved. MayContinue reserved action)) (sym could.kept.unarmed) tt;
         marked =
-            subst (λ (sets : Slotted). HoldsMarked sets.residency (hold_in old.pool (kept_of old k)).entries) (sym sets_are) could.marked;
+            subst (λ (sets : Slotted). HoldsMarked sets.residency (hold_in old.pool (kept_of old k)).entries)
+            (sym sets_are) could.marked;
         few =
             subst (λ (sets : Slotted). write_bits_of sets.residency ≤ (kept_of old k).hold.limit) (sym sets_are)
             (are_few old hart from section touch mid follows bit);
@@ -252,19 +282,24 @@ module _ (old : Parts) (hart : HartId) (from : ModelState) (section : Section) (
         record {
           bit = bit;
           ran =
-              subst (λ l. IfSome l (λ s. HasRun old.pool pool (kept_of old k) new s (run_of old.pool (kept_of old k) s (lent old.pool mid) action)))
+              subst
+              (λ l. IfSome l
+              (λ s. HasRun old.pool pool (kept_of old k) new s
+              (run_of old.pool (kept_of old k) s (lent old.pool mid) action)))
               live done.ran;
           covers = done.covers;
           still = record {
             both = done.still.both;
             hold_owner = done.still.hold_owner;
             cache_owner = done.still.cache_owner ∙ bit.keeps.owner;
-            beside = subst (λ owner. LeavesBeside owner (kept_of old k).hold.owner old.pool pool) bit.keeps.owner done.still.beside;
+            beside =
+                subst (λ owner. LeavesBeside owner (kept_of old k).hold.owner old.pool pool) bit.keeps.owner
+                done.still.beside;
           };
         }
 
 -- the line that is touched is in the cache
-pub touched_there : (cache : Slotted) (lines : List (List Way)) (touch : Option Touch) → cache.residency ≡ lines → IsThere lines touch →
-    IsTouchedThere cache touch
+pub touched_there : (cache : Slotted) (lines : List (List Way)) (touch : Option Touch) → cache.residency ≡ lines →
+    IsThere lines touch → IsTouchedThere cache touch
 touched_there cache lines None is resident = tt
 touched_there cache lines (Some touch) is resident = subst (λ c. is_resident c touch.line ≡ true) (sym is) resident

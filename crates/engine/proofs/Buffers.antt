@@ -13,7 +13,8 @@ use Rattle.el_base.proofs.Laws.Ranges.{at_most, ranges}
 use Rattle.el_base.specs.Line.{line_number}
 use Rattle.el_model.specs.Deed.{MayBuffer}
 use Rattle.el_model.proofs.Laws.Harts.{hart_of-with_hart_same}
-use Rattle.el_model.specs.InSection.{Buffers, buffered_hart, by_section_rule, covered, section_rule, section_turn, shown_in}
+use Rattle.el_model.specs.InSection.{Buffers, buffered_hart, by_section_rule, covered, section_rule, section_turn}
+use Rattle.el_model.specs.InSection.{shown_in}
 use Rattle.el_model.specs.Next as next_events
 use Rattle.el_model.specs.State.{ModelState, Section, begin, cache_of, hart_of, section_of, with_hart}
 use Rattle.el_base.specs.declared.hart_id.HartId.{HartId}
@@ -67,7 +68,8 @@ is_there from h section (Some touch) may = elim may.coverable [
 ]
 
 -- what is kept, over a cache in which it has its bit
-pub record CanBuffer (parts : Parts) (h : ℕ) (from : ModelState) (section : Section) (touch : Option Touch) (cache : Slotted) : Type 0 where
+pub record CanBuffer (parts : Parts) (h : ℕ) (from : ModelState) (section : Section) (touch : Option Touch)
+    (cache : Slotted) : Type 0 where
   pub kept : KeepsLive parts h from section
   pub may : MayBuffer from h section touch
   pub residency : cache.residency ≡ with_its_bit (cache_of from h) touch
@@ -77,13 +79,15 @@ pub record CanBuffer (parts : Parts) (h : ℕ) (from : ModelState) (section : Se
   pub agree : AgreeBeside from.committed section.word (touched_by from.committed (kept_of parts h).marks.present)
       (cached_byte (lent parts.pool cache))
 
-same_resident : (old new : Cached) (line : ℕ) → copy_in new line ≡ copy_in old line → is_resident new.residency line ≡ true →
-    is_resident old.residency line ≡ true
+same_resident : (old new : Cached) (line : ℕ) → copy_in new line ≡ copy_in old line →
+    is_resident new.residency line ≡ true → is_resident old.residency line ≡ true
 same_resident old new line same there = copy_resident old line _ (sym same ∙ copy_is new line there)
 
-same_memory : (flat : FlatState) (old new : Cached) → ((line : ℕ) → copy_in new line ≡ copy_in old line) → HasBytesOf flat old → HasBytesOf flat new
+same_memory : (flat : FlatState) (old new : Cached) → ((line : ℕ) → copy_in new line ≡ copy_in old line) →
+    HasBytesOf flat old → HasBytesOf flat new
 same_memory flat old new same bytes address low resident =
-    ap (λ row. slice_index row (address % LINE_BYTES)) (same_bytes old new (line_number address) (same (line_number address)))
+    ap (λ row. slice_index row (address % LINE_BYTES))
+    (same_bytes old new (line_number address) (same (line_number address)))
     ∙ bytes address low (same_resident old new (line_number address) (same (line_number address)) resident)
 
 -- a line with a bit is there
@@ -95,10 +99,12 @@ resident_with_any cache line bit = by (way_of cache line) bit
     by (Some way) bit = refl
 
 covered_memory : (flat : FlatState) (cache : Cached) → HasBytesOf flat cache → HasCoveredBytes flat cache
-covered_memory flat cache bytes address low bit = bytes address low (resident_with_any cache.residency (line_number address) bit)
+covered_memory flat cache bytes address low bit =
+    bytes address low (resident_with_any cache.residency (line_number address) bit)
 
-pub can_buffer : (parts : Parts) (h : ℕ) (from : ModelState) (section : Section) (touch : Option Touch) (cache : Slotted) →
-    FollowsRule parts h from section (Buffers touch) → HasItsBitNow (sets_in parts h) cache touch → CanBuffer parts h from section touch cache
+pub can_buffer : (parts : Parts) (h : ℕ) (from : ModelState) (section : Section) (touch : Option Touch)
+    (cache : Slotted) → FollowsRule parts h from section (Buffers touch) → HasItsBitNow (sets_in parts h) cache touch →
+    CanBuffer parts h from section touch cache
 can_buffer parts h from section touch cache follows now =
     let kept = keeps_live parts h from section follows.inside in
     let may : MayBuffer from h section touch = says parts h from section (Buffers touch) follows in
@@ -117,7 +123,8 @@ can_buffer parts h from section touch cache follows now =
       keeps = kept.keeps;
       bytes =
           covered_memory from.committed (lent parts.pool cache)
-          (same_memory from.committed (cache_in parts h) (lent parts.pool cache) (now.keeps.copies parts.pool) kept.bytes);
+          (same_memory from.committed (cache_in parts h) (lent parts.pool cache)
+          (now.keeps.copies parts.pool) kept.bytes);
     } in
     record {
       kept = kept;
@@ -131,14 +138,16 @@ can_buffer parts h from section touch cache follows now =
     }
 
 -- what its action does over that cache is what comes next in the section
-pub does_as_shown : (parts : Parts) (h : ℕ) (from : ModelState) (section : Section) (touch : Option Touch) (cache : Slotted) (action : Action) →
-    ActsInside parts h from section → CanBuffer parts h from section touch cache → action ≡ next_action parts h →
-    run_of parts.pool (kept_of parts h) section (lent parts.pool cache) action
-    ≡ section_execution from.committed section (kept_of parts h).marks.present (hold_in parts.pool (kept_of parts h)).entries
+pub does_as_shown : (parts : Parts) (h : ℕ) (from : ModelState) (section : Section) (touch : Option Touch)
+    (cache : Slotted) (action : Action) → ActsInside parts h from section → CanBuffer parts h from section touch cache →
+    action ≡ next_action parts h → run_of parts.pool (kept_of parts h) section (lent parts.pool cache) action
+    ≡ section_execution from.committed section (kept_of parts h).marks.present
+    (hold_in parts.pool (kept_of parts h)).entries
     (cached_byte (lent parts.pool cache))
 does_as_shown parts h from section touch cache action inside can is =
     let kept = kept_of parts h in
-    ap (λ a. perform a kept.marks.present (section_byte (hold_in parts.pool kept).entries section.word section.new (cached_byte (lent parts.pool cache))))
+    ap (λ a. perform a kept.marks.present
+    (section_byte (hold_in parts.pool kept).entries section.word section.new (cached_byte (lent parts.pool cache))))
     (is ∙ same_action parts h from inside.may)
 
 ends_is : (action : Action) → ends_section action ≡ is_call_or_stop action
@@ -148,9 +157,9 @@ ends_is (actions.Answer value) = refl
 ends_is (actions.Append address len) = refl
 ends_is _ = refl
 
-pub may_run : (parts : Parts) (h : ℕ) (from : ModelState) (section : Section) (touch : Option Touch) (cache : Slotted) (action : Action) →
-    ActsInside parts h from section → CanBuffer parts h from section touch cache → action ≡ next_action parts h →
-    calls.MayBuffer parts.pool (kept_of parts h) section (lent parts.pool cache) action
+pub may_run : (parts : Parts) (h : ℕ) (from : ModelState) (section : Section) (touch : Option Touch) (cache : Slotted)
+    (action : Action) → ActsInside parts h from section → CanBuffer parts h from section touch cache →
+    action ≡ next_action parts h → calls.MayBuffer parts.pool (kept_of parts h) section (lent parts.pool cache) action
 may_run parts h from section touch cache action inside can is =
     let kept = kept_of parts h in
     let comes = next_inside parts h from section action inside is in
@@ -164,7 +173,9 @@ may_run parts h from section touch cache action inside can is =
           (cached_byte (lent parts.pool cache)) can.is_kept.run
           can.is_kept.keeps can.agree)
           ∙ can.step.unmixed;
-      bit = subst (HasItsBit cache.residency) (sym (next.next_touch action (shown_in from h section) h comes)) can.step.bit;
+      bit =
+          subst (HasItsBit cache.residency) (sym (next.next_touch action (shown_in from h section) h comes))
+          can.step.bit;
     }
 
 -- a section is no longer than configured
@@ -177,13 +188,15 @@ is_counted parts h from section inside =
     let most = at_most 2 65536 reached.config.long (ranges reached.config reached.in_range).long in
     omega (arith, short.no_more, most)
 
-by_rule : (from : ModelState) (h : ℕ) (section : Section) (touch : Option Touch) → by_section_rule from h section (Buffers touch) ≡
+by_rule : (from : ModelState) (h : ℕ) (section : Section) (touch : Option Touch) →
+    by_section_rule from h section (Buffers touch) ≡
     record { state = with_hart from h (buffered_hart section touch (hart_of from h)); outcome = Buffered }
 unfolding by_section_rule
 by_rule from h section touch = refl
 
-pub buffers_turn : (from : ModelState) (h : ℕ) (section : Section) (touch : Option Touch) → section_rule from h section ≡ Buffers touch →
-    section_turn from h section ≡ record { state = with_hart from h (buffered_hart section touch (hart_of from h)); outcome = Buffered }
+pub buffers_turn : (from : ModelState) (h : ℕ) (section : Section) (touch : Option Touch) →
+    section_rule from h section ≡ Buffers touch → section_turn from h section
+    ≡ record { state = with_hart from h (buffered_hart section touch (hart_of from h)); outcome = Buffered }
 unfolding section_turn
 buffers_turn from h section touch is = ap (by_section_rule from h section) is ∙ by_rule from h section touch
 
@@ -197,15 +210,18 @@ cache_then parts hart from section touch follows =
     (misses.is_there parts from hart.number follows.inside.may))
 
 -- no more lines are written than configured, as the step shows
-pub are_few : (parts : Parts) (hart : HartId) (from : ModelState) (section : Section) (touch : Option Touch) (cache : Slotted) →
-    FollowsRule parts hart.number from section (Buffers touch) → HasItsBitNow (sets_in parts hart.number) cache touch →
+pub are_few : (parts : Parts) (hart : HartId) (from : ModelState) (section : Section) (touch : Option Touch)
+    (cache : Slotted) → FollowsRule parts hart.number from section (Buffers touch) →
+    HasItsBitNow (sets_in parts hart.number) cache touch →
     write_bits_of cache.residency ≤ (kept_of parts hart.number).hold.limit
 are_few parts hart from section touch cache follows now =
     let h = hart.number in
     let may = follows.inside.may in
     let kept = keeps_live parts h from section follows.inside in
     let residency = now.residency ∙ ap (λ c. with_its_bit c touch) kept.cache in
-    let formed = subst (IsWellFormed (sets_in parts h).ways) kept.cache (may.ready.well_formed h (inside_caches parts h from may)) in
+    let formed =
+    subst (IsWellFormed (sets_in parts h).ways) kept.cache
+    (may.ready.well_formed h (inside_caches parts h from may)) in
     let after = few_after parts hart from section follows.inside in
     let there = cache_then parts hart from section touch follows in
     let same = few_touched (sets_in parts h).ways (cache_of from h) touch formed in
@@ -213,17 +229,22 @@ are_few parts hart from section touch cache follows now =
     let config = ap (λ config. config.lines) (config_of from may.reached) in
     omega (arith, ap write_bits_of residency, same, ap write_bits_of there, after, limit, config)
   where
-    few_after : (parts : Parts) (hart : HartId) (from : ModelState) (section : Section) → (inside : ActsInside parts hart.number from section) →
-        write_bits_of (cache_of (section_turn from hart.number section).state hart.number) ≤ inside.may.reached.config.lines
+    few_after : (parts : Parts) (hart : HartId) (from : ModelState) (section : Section) →
+        (inside : ActsInside parts hart.number from section) →
+        write_bits_of (cache_of (section_turn from hart.number section).state hart.number)
+        ≤ inside.may.reached.config.lines
     few_after parts hart from section inside =
         let reached = inside.may.reached in
         let last = state_after-last (begin reached.program reached.config) reached.events (step_of hart) in
         subst (λ s. write_bits_of (cache_of s hart.number) ≤ reached.config.lines)
-        (last ∙ ap (λ s. (next_events.next s (step_of hart)).state) (sym reached.state_is) ∙ ap (λ t. t.state) (turn_is parts hart from section inside))
-        (written_lines_are_few reached.program reached.config (reached.events ++ step_of hart ∷ []) reached.one_hart_each reached.in_range hart.number)
+        (last ∙ ap (λ s. (next_events.next s (step_of hart)).state) (sym reached.state_is)
+        ∙ ap (λ t. t.state) (turn_is parts hart from section inside))
+        (written_lines_are_few reached.program reached.config (reached.events ++ step_of hart ∷ [])
+        reached.one_hart_each reached.in_range hart.number)
 
     few_touched : (ways : ℕ) (cache : List (List Way)) (touch : Option Touch) → IsWellFormed ways cache →
         write_bits_of (covered cache touch) ≡ write_bits_of (with_its_bit cache touch)
     few_touched ways cache None formed = refl
     few_touched ways cache (Some touch) formed =
-        write_bits_of-touched ways (with_its_bit cache (Some touch)) touch.line (formed_with ways cache (Some touch) formed)
+        write_bits_of-touched ways (with_its_bit cache (Some touch)) touch.line
+        (formed_with ways cache (Some touch) formed)

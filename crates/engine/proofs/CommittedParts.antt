@@ -1,6 +1,7 @@
 -- the parts after a hart's section has committed
 use Rattle.std.proofs.Common.{◌≡◌, ◌≢◌, ◌∙◌, ℕ, ◌+◌, ◌-◌, ◌*◌, ◌/◌, ◌<◌, ◌≤◌, Bool, true}
-use Rattle.std.proofs.Common.{false, if◌then◌else◌, List, drop, length, Option, Some, None, is_some, refl, ap, sym, subst, arith}
+use Rattle.std.proofs.Common.{false, if◌then◌else◌, List, drop, length, Option, Some, None, is_some, refl, ap, sym}
+use Rattle.std.proofs.Common.{subst, arith}
 use Rattle.std.specs.Prelude.{IfSome, IsSome, option_map, slice_set}
 use Rattle.std.specs.Option.{option_map_or}
 use Rattle.std.proofs.lemmas.Bool.{eq-eqb}
@@ -94,11 +95,13 @@ hart_then from h = committed_hart (view_of from.committed h).pc (hart_of from h)
 abbrev state_then : ModelState → ℕ → Section → ModelState
 state_then from h section = record (with_hart from h (hart_then from h)) { committed = done_of from h section }
 
-by_rule : (from : ModelState) (h : ℕ) (section : Section) → (by_section_rule from h section Commits).state ≡ state_then from h section
+by_rule : (from : ModelState) (h : ℕ) (section : Section) →
+    (by_section_rule from h section Commits).state ≡ state_then from h section
 unfolding by_section_rule
 by_rule from h section = refl
 
-by_outcome : (from : ModelState) (h : ℕ) (section : Section) → (by_section_rule from h section Commits).outcome ≡ Committed (section.count + 1)
+by_outcome : (from : ModelState) (h : ℕ) (section : Section) →
+    (by_section_rule from h section Commits).outcome ≡ Committed (section.count + 1)
 unfolding by_section_rule
 by_outcome from h section = refl
 
@@ -107,17 +110,19 @@ commits_turn : (from : ModelState) (h : ℕ) (section : Section) → section_rul
 unfolding section_turn
 commits_turn from h section is = ap (by_section_rule from h section) is
 
-pub outcome_then : (parts : Parts) (h : ℕ) (from : ModelState) (section : Section) → FollowsRule parts h from section Commits →
-    Committed (section.count + 1) ≡ (section_turn from h section).outcome
+pub outcome_then : (parts : Parts) (h : ℕ) (from : ModelState) (section : Section) →
+    FollowsRule parts h from section Commits → Committed (section.count + 1) ≡ (section_turn from h section).outcome
 outcome_then parts h from section follows =
     sym (ap (λ turn. turn.outcome) (commits_turn from h section follows.rule_is) ∙ by_outcome from h section)
 
 -- the action is a release
-pub releases : (parts : Parts) (h : ℕ) (from : ModelState) (section : Section) (action : Action) → FollowsRule parts h from section Commits →
-    action ≡ next_action parts h → IsReleaseAction section.word section.old action
+pub releases : (parts : Parts) (h : ℕ) (from : ModelState) (section : Section) (action : Action) →
+    FollowsRule parts h from section Commits → action ≡ next_action parts h →
+    IsReleaseAction section.word section.old action
 releases parts h from section action follows is =
     subst (IsReleaseAction section.word section.old) (sym (next_inside parts h from section action follows.inside is))
-    (release_actions (shown_in from h section) h section.word section.old (says parts h from section Commits follows).releases)
+    (release_actions (shown_in from h section) h section.word section.old
+    (says parts h from section Commits follows).releases)
 
 -- its section's effect
 bytes_are : (from : ModelState) → IsReached from → AreBytes from.committed.bytes
@@ -126,8 +131,10 @@ bytes_are from reached =
     ((of_program reached.program reached.config reached.events).bytes reached.bytes)
 
 pub effect : (parts : Parts) (h : ℕ) (from : ModelState) (section : Section) (action : Action) (after : SectionState) →
-    FollowsRule parts h from section Commits → action ≡ next_action parts h → HasReleased parts.pool (kept_of parts h) after section action →
-    HasEffect from.committed (done_of from h section) h section.word after.marks.present (hold_in parts.pool (kept_of parts h)).entries
+    FollowsRule parts h from section Commits → action ≡ next_action parts h →
+    HasReleased parts.pool (kept_of parts h) after section action →
+    HasEffect from.committed (done_of from h section) h section.word after.marks.present
+    (hold_in parts.pool (kept_of parts h)).entries
 effect parts h from section action after follows is released =
     let kept = keeps_live parts h from section follows.inside in
     let view = (kept_of parts h).marks.present in
@@ -136,9 +143,11 @@ effect parts h from section action after follows is released =
     let may : MayCommit from h section = says parts h from section Commits follows in
     let view_is : after.marks.present ≡ view_after (section_execution from.committed section view hold under) view =
     ap (λ marks. marks.present) (released.marks under)
-    ∙ ap (λ a. view_after (perform a view (section_byte hold section.word section.new under)) view) (is ∙ same_action parts h from follows.inside.may) in
+    ∙ ap (λ a. view_after (perform a view (section_byte hold section.word section.new under)) view)
+    (is ∙ same_action parts h from follows.inside.may) in
     subst (λ v. HasEffect from.committed (done_of from h section) h section.word v hold) (sym view_is)
-    (commits from.committed h (cache_of from h) section view hold under (bytes_are from follows.inside.may.reached) kept.run kept.keeps may.releases)
+    (commits from.committed h (cache_of from h) section view hold under (bytes_are from follows.inside.may.reached)
+    kept.run kept.keeps may.releases)
 
 -- a written line may be written
 owned_in : (way : Option Way) → IsOwned way → bit_in Write way ≡ true → may_write (letter_in way) ≡ true
@@ -153,9 +162,11 @@ owned from h line reached bit =
     (written_lines_may_be_written reached.program reached.config reached.events h line)) bit
 
 -- the cache of a hart before and after, the bytes of memory before and after, and what is held
-module _ (copies : Copies) (h : ℕ) (cache : Cached) (old done : FlatState) (word : ℕ) (view : HartView) (hold : List Entry)
+module _ (copies : Copies) (h : ℕ) (cache : Cached) (old done : FlatState) (word : ℕ) (view : HartView)
+    (hold : List Entry)
     (tells : TellsOf copies (line_of old)) (lies : IsPlaced copies old) (effects : HasEffect old done h word view hold)
-    (commits_in : HasCommitted (cache_at copies.caches h) cache hold) (marked : HoldsMarked (cache_at copies.caches h).residency hold)
+    (commits_in : HasCommitted (cache_at copies.caches h) cache hold)
+    (marked : HoldsMarked (cache_at copies.caches h).residency hold)
     (owns : (line : ℕ) → write_bit (cache_at copies.caches h).residency line ≡ true → may_write (letter_of
     (cache_at copies.caches h).residency line) ≡ true) where
   abbrev before : Cached
@@ -170,13 +181,15 @@ module _ (copies : Copies) (h : ℕ) (cache : Cached) (old done : FlatState) (wo
   same_copy None = refl
   same_copy (Some copy) = refl
 
-  unheld_back : (line : ℕ) (bit : Bool) → write_bit before.residency line ≡ bit → holds hold line ≡ false → IsCopyBack (copy_in before line)
+  unheld_back : (line : ℕ) (bit : Bool) → write_bit before.residency line ≡ bit → holds hold line ≡ false →
+      IsCopyBack (copy_in before line)
       (copy_in cache line)
   unheld_back line false bit unheld =
       given_back_of.Kept (commits_in.others line unheld
       ∙ ap (λ b. option_map (committed_copy b) (copy_in before line)) bit ∙ same_copy (copy_in before line))
   unheld_back line true bit unheld =
-      Stored (record { letter = letter_of before.residency line; bytes = bytes_of before line }) (record { letter = M; bytes = bytes_of before line })
+      Stored (record { letter = letter_of before.residency line; bytes = bytes_of before line })
+      (record { letter = M; bytes = bytes_of before line })
       (was line bit) (owns line bit)
       (commits_in.others line unheld ∙ ap (λ b. option_map (committed_copy b) (copy_in before line)) bit
       ∙ ap (option_map (committed_copy true)) (was line bit)) refl
@@ -184,7 +197,8 @@ module _ (copies : Copies) (h : ℕ) (cache : Cached) (old done : FlatState) (wo
   back : (line : ℕ) (held : Bool) → holds hold line ≡ held → IsCopyBack (copy_in before line) (copy_in cache line)
   back line true is =
       let bit = marked line is in
-      Stored (record { letter = letter_of before.residency line; bytes = bytes_of before line }) (record { letter = M; bytes = bytes_of cache line })
+      Stored (record { letter = letter_of before.residency line; bytes = bytes_of before line })
+      (record { letter = M; bytes = bytes_of cache line })
       (was line bit) (owns line bit) (commits_in.held line is) refl
   back line false is = unheld_back line (write_bit before.residency line) refl is
 
@@ -210,43 +224,59 @@ module _ (copies : Copies) (h : ℕ) (cache : Cached) (old done : FlatState) (wo
       (copy_tells copies h line (line_of old) tells (writable_there before line (owns line (marked line is))))))
 
   same_bytes : (bit : Bool) (copy : Option Copy) (bytes : List ℕ) →
-      option_map_or (λ c. c.bytes) (option_map (committed_copy bit) copy) bytes ≡ option_map_or (λ c. c.bytes) copy bytes
+      option_map_or (λ c. c.bytes) (option_map (committed_copy bit) copy) bytes
+      ≡ option_map_or (λ c. c.bytes) copy bytes
   same_bytes bit None bytes = refl
   same_bytes bit (Some copy) bytes = refl
 
-  exact : (line : ℕ) (held : Bool) → HasLine copies line → holds hold line ≡ held → line_of done line ≡ bytes_back (line_of old) cache line
+  exact : (line : ℕ) (held : Bool) → HasLine copies line → holds hold line ≡ held →
+      line_of done line ≡ bytes_back (line_of old) cache line
   exact line true there is =
-      held_line line there is ∙ sym (ap (λ copy. option_map_or (λ c. c.bytes) copy (line_of old line)) (commits_in.held line is))
+      held_line line there is
+      ∙ sym (ap (λ copy. option_map_or (λ c. c.bytes) copy (line_of old line)) (commits_in.held line is))
   exact line false there is =
       effects.same line (from_there line there) is
       ∙ sym (ap (λ copy. option_map_or (λ c. c.bytes) copy (line_of old line)) (commits_in.others line is)
       ∙ same_bytes (write_bit before.residency line) (copy_in before line) (line_of old line)
-      ∙ kept_bytes (line_of old line) (copies_of copies.caches line) (behind_of copies.first copies.lines line) h (copy_in before line)
+      ∙ kept_bytes (line_of old line) (copies_of copies.caches line) (behind_of copies.first copies.lines line) h
+      (copy_in before line)
       (tells.each line there) refl)
 
   tells_then : TellsOf (copies_with copies h cache) (line_of done)
   tells_then = tells_after copies h cache (line_of old) (line_of done) tells
-      (record { given_back = record { each = λ line. back line (holds hold line) refl }; exact = λ line there. exact line (holds hold line) there refl })
+      (record {
+        given_back = record { each = λ line. back line (holds hold line) refl };
+        exact = λ line there. exact line (holds hold line) there refl;
+      })
 
 -- the bus
 agent_then : (from : ModelState) (h : ℕ) → armed_of from h ≡ None →
     agent_of (hart_then from h) ≡ agent_of (close_attempt (record (hart_of from h) { held_line = None }))
 agent_then from h none =
-    ap (λ armed. record (agent_of (close_attempt (record (hart_of from h) { held_line = None }))) { armed = armed_count armed }) (sym none)
+    ap
+    (λ armed.
+    record (agent_of (close_attempt (record (hart_of from h) { held_line = None }))) {
+      armed =
+          armed_count armed;
+    }) (sym none)
 
 -- a hart that loses its reservation where it is of a word on one of these lines
-seen_by : (lines : ℕ → Bool) (reserved : Option ℕ) (own : OwnState) → (committed_of own.section.marks).reserved ≡ reserved →
-    IsSeenAs own (unreserved_line (line_among lines reserved) own) (view_unreserved_on lines (committed_of own.section.marks))
+seen_by : (lines : ℕ → Bool) (reserved : Option ℕ) (own : OwnState) →
+    (committed_of own.section.marks).reserved ≡ reserved →
+    IsSeenAs own (unreserved_line (line_among lines reserved) own)
+    (view_unreserved_on lines (committed_of own.section.marks))
 seen_by lines None own is =
     let view = committed_of own.section.marks in
-    seen_same own (view_unreserved_on lines view) (ap (λ r. record view { reserved = r }) (is ∙ sym (ap (reserved_beside lines) is)))
+    seen_same own (view_unreserved_on lines view)
+    (ap (λ r. record view { reserved = r }) (is ∙ sym (ap (reserved_beside lines) is)))
 seen_by lines (Some word) own is = by (lines (line_number word)) refl
   where
     view : HartView
     view = committed_of own.section.marks
 
     by : (among : Bool) → lines (line_number word) ≡ among →
-        IsSeenAs own (unreserved_line (if among then Some (line_number word) else None) own) (view_unreserved_on lines view)
+        IsSeenAs own (unreserved_line (if among then Some (line_number word) else None) own)
+        (view_unreserved_on lines view)
     by true here =
         subst (IsSeenAs own (unreserved_own (line_number word) own))
         (ap (λ r. record view { reserved = r })
@@ -264,7 +294,8 @@ seen_beside : (lines : ℕ → Bool) (own : OwnState) →
 seen_beside lines own = seen_by lines (committed_of own.section.marks).reserved own refl
 
 -- the hart's cache as its section commits, and what the bus shows then
-pub record CommitsAt (parts : Parts) (bus : BusState) (h : ℕ) (from : ModelState) (section : Section) (action : Action) (after : SectionState)
+pub record CommitsAt (parts : Parts) (bus : BusState) (h : ℕ) (from : ModelState) (section : Section) (action : Action)
+    (after : SectionState)
     (pool : Pooled) (cache : Slotted) : Type 0 where
   pub follows : FollowsRule parts h from section Commits
   pub next : action ≡ next_action parts h
@@ -272,7 +303,8 @@ pub record CommitsAt (parts : Parts) (bus : BusState) (h : ℕ) (from : ModelSta
   pub copies : bus.copies ≡ parts.bus.copies
   pub over : CommitsOver parts.pool pool (sets_in parts h) cache (kept_of parts h) after action
 
-module _ (parts : Parts) (bus : BusState) (h : ℕ) (from : ModelState) (section : Section) (action : Action) (after : SectionState) (pool : Pooled)
+module _ (parts : Parts) (bus : BusState) (h : ℕ) (from : ModelState) (section : Section) (action : Action)
+    (after : SectionState) (pool : Pooled)
     (cache : Slotted) (at : CommitsAt parts bus h from section action after pool cache) where
   abbrev may : MayAct parts h from
   may = at.follows.inside.may
@@ -282,7 +314,8 @@ module _ (parts : Parts) (bus : BusState) (h : ℕ) (from : ModelState) (section
       subst (λ live. IfSome live (λ s. HasReleased parts.pool (kept_of parts h) after s action))
       (keeps_live parts h from section at.follows.inside).live at.over.released
 
-  effects : HasEffect from.committed (done_of from h section) h section.word after.marks.present (hold_in parts.pool (kept_of parts h)).entries
+  effects : HasEffect from.committed (done_of from h section) h section.word after.marks.present
+      (hold_in parts.pool (kept_of parts h)).entries
   effects = effect parts h from section action after at.follows at.next released
 
   abbrev mid : ModelState
@@ -314,7 +347,8 @@ module _ (parts : Parts) (bus : BusState) (h : ℕ) (from : ModelState) (section
       tells_then all h (lent pool cache) from.committed (done_of from h section) section.word after.marks.present
       (hold_in parts.pool (kept_of parts h)).entries may.is_in.told.told
       (tells_memory parts (freed from h) may.is_in).placed effects
-      (subst (λ c. HasCommitted c (lent pool cache) (hold_in parts.pool (kept_of parts h)).entries) (sym here) at.over.committed)
+      (subst (λ c. HasCommitted c (lent pool cache) (hold_in parts.pool (kept_of parts h)).entries) (sym here)
+      at.over.committed)
       (subst (λ c. HoldsMarked c (hold_in parts.pool (kept_of parts h)).entries) (sym there)
       (keeps_live parts h from section at.follows.inside).marked)
       (λ line bit.
@@ -326,8 +360,10 @@ module _ (parts : Parts) (bus : BusState) (h : ℕ) (from : ModelState) (section
 
   told_then : Tells pool (returned bus h cache) (line_of (done_of from h section))
   told_then =
-      told_copies pool (returned parts.bus h cache) (returned bus h cache) _ (ap (λ (c : Holding). record c { caches = slice_set c.caches h cache }) at.copies)
-      (told_back parts.pool pool parts.bus h cache _ _ may.is_in.told (inside_caches parts h from may) at.over.still.cache_owner
+      told_copies pool (returned parts.bus h cache) (returned bus h cache) _
+      (ap (λ (c : Holding). record c { caches = slice_set c.caches h cache }) at.copies)
+      (told_back parts.pool pool parts.bus h cache _ _ may.is_in.told (inside_caches parts h from may)
+      at.over.still.cache_owner
       at.over.still.both.cache_lent beside tells_now)
 
   same_sets : slotted_at bus.copies.caches h ≡ sets_in parts h
@@ -335,12 +371,14 @@ module _ (parts : Parts) (bus : BusState) (h : ℕ) (from : ModelState) (section
 
   pub shows_then : Shows (returned bus h cache) (state_then from h section)
   shows_then =
-      subst (λ s. Shows (returned bus h cache) (record s { committed = done_of from h section })) (stands_between.becomes (hart_then from h))
+      subst (λ s. Shows (returned bus h cache) (record s { committed = done_of from h section }))
+      (stands_between.becomes (hart_then from h))
       (shows_returned bus mid h cache (hart_then from h) (done_of from h section) inside stands_between.shows
       (record {
         agent = agent_then from h unarmed_there ∙ ap agent_of (sym stands_between.here);
         ways = at.over.committed.ways ∙ sym (ap (λ (c : Slotted). c.ways) same_sets);
-        residency = ap (λ c. committed c) (sym (keeps_live parts h from section at.follows.inside).cache) ∙ sym at.over.committed.residency;
+        residency = ap (λ c. committed c) (sym (keeps_live parts h from section at.follows.inside).cache)
+            ∙ sym at.over.committed.residency;
         live =
             sym (lives_unarmed cache.residency 0 refl ∙ ap has_marks at.over.committed.residency
             ∙ has_marks-committed (sets_in parts h).residency);
@@ -359,10 +397,12 @@ module _ (parts : Parts) (bus : BusState) (h : ℕ) (from : ModelState) (section
   free_then = record {
     none_raised =
         ap (λ agent. agent.raised) (stands_between.shows.agents h) ∙ ap (λ hart. hart.raised) stands_between.here
-        ∙ sym (ap (λ agent. agent.raised) (may.is_in.shows.agents h) ∙ ap (λ hart. hart.raised) (freed_here from h (is_there parts from h may)))
+        ∙ sym (ap (λ agent. agent.raised) (may.is_in.shows.agents h)
+        ∙ ap (λ hart. hart.raised) (freed_here from h (is_there parts from h may)))
         ∙ waits_not.none_raised;
     none_ordered =
-        ap (λ order. request_of order h) (stands_between.shows.order ∙ sym may.is_in.shows.order) ∙ waits_not.none_ordered;
+        ap (λ order. request_of order h) (stands_between.shows.order ∙ sym may.is_in.shows.order)
+        ∙ waits_not.none_ordered;
   }
 
   pub ready_then : IsReady bus → IsReady (returned bus h cache)
@@ -382,7 +422,8 @@ module _ (parts : Parts) (bus : BusState) (h : ℕ) (from : ModelState) (section
       let was = may.is_in.harts h may.exists in
       let below = is_there parts from h may in
       let here = hart_of-with_hart_same from h (hart_then from h) below in
-      let freed_part : HasOwn own (record (hart_of from h) { held_line = None }) = subst (HasOwn own) (freed_here from h below) was.part in
+      let freed_part : HasOwn own (record (hart_of from h) { held_line = None }) =
+      subst (HasOwn own) (freed_here from h below) was.part in
       let part : HasOwn own (hart_of from h) = record {
         section = freed_part.section;
         armed = freed_part.armed;
@@ -394,14 +435,22 @@ module _ (parts : Parts) (bus : BusState) (h : ℕ) (from : ModelState) (section
       let under : ℕ → ℕ = λ a. 0 in
       record {
         part = subst (HasOwn (committed_own after own)) (sym here)
-            (subst (λ pc. HasOwn (committed_own after own) (committed_hart pc (hart_of from h))) (ap (λ view. view.pc) was.view)
+            (subst (λ pc. HasOwn (committed_own after own) (committed_hart pc (hart_of from h)))
+            (ap (λ view. view.pc) was.view)
             (committed_is after own (hart_of from h) part released.live released.armed));
-        view = ap committed_of (released.marks under) ∙ sym (ap (λ marks. marks.present) (released.marks under)) ∙ sym effects.own;
-        section = subst (λ live. KeepsSectionOf pool (state_then from h section) h live after) (sym (ap (λ hart. hart.section) here)) tt;
-        armed = subst (λ armed. KeepsReserved (done_of from h section) h armed after.marks.present) (sym released.armed) tt;
+        view = ap committed_of (released.marks under) ∙ sym (ap (λ marks. marks.present) (released.marks under))
+            ∙ sym effects.own;
+        section =
+            subst (λ live. KeepsSectionOf pool (state_then from h section) h live after)
+            (sym (ap (λ hart. hart.section) here)) tt;
+        armed =
+            subst (λ armed. KeepsReserved (done_of from h section) h armed after.marks.present) (sym released.armed) tt;
         stands = subst (λ l. StandsAs after.marks after.hold l after.armed) (sym released.live)
             (subst (StandsAs after.marks after.hold None) (sym released.armed)
-            (record { unmarked = ap (λ marks. marks.mark) (released.marks under); empty = ap (λ hold. hold.entries) released.hold }));
+            (record {
+              unmarked = ap (λ marks. marks.mark) (released.marks under);
+              empty = ap (λ hold. hold.entries) released.hold;
+            }));
         limit = ap (λ hold. hold.limit) released.hold ∙ was.limit;
         owner = at.over.still.hold_owner ∙ was.owner;
         lent = at.over.still.both.hold_lent;
@@ -409,8 +458,8 @@ module _ (parts : Parts) (bus : BusState) (h : ℕ) (from : ModelState) (section
 
   -- and the others
   others_then : (g : ℕ) (own : OwnState) → g ≢ h → g < length parts.harts →
-      own ≡ unreserved_beside (is_written section.word (hold_in parts.pool (kept_of parts h)).entries) (own_at parts.harts g) →
-      IsSeenAs (own_at parts.harts g) own (view_of (done_of from h section) g)
+      own ≡ unreserved_beside (is_written section.word (hold_in parts.pool (kept_of parts h)).entries)
+      (own_at parts.harts g) → IsSeenAs (own_at parts.harts g) own (view_of (done_of from h section) g)
   others_then g own other exists is =
       let lines = is_written section.word (hold_in parts.pool (kept_of parts h)).entries in
       subst (λ o. IsSeenAs (own_at parts.harts g) o (view_of (done_of from h section) g)) (sym is)
@@ -422,9 +471,11 @@ module _ (parts : Parts) (bus : BusState) (h : ℕ) (from : ModelState) (section
       (seen_beside lines (own_at parts.harts g))))
 
   -- so the parts are in the state after it
-  pub stepped : (unreserved : List OwnState) (own : OwnState) → AreUnreserved h (written_by parts.pool (own_at parts.harts h)) parts.harts unreserved →
+  pub stepped : (unreserved : List OwnState) (own : OwnState) →
+      AreUnreserved h (written_by parts.pool (own_at parts.harts h)) parts.harts unreserved →
       own ≡ committed_own after (own_at parts.harts h) →
-      HasStepped parts (record parts { pool = pool; bus = returned bus h cache; harts = slice_set unreserved h own }) h (state_then from h section)
+      HasStepped parts (record parts { pool = pool; bus = returned bus h cache; harts = slice_set unreserved h own }) h
+      (state_then from h section)
   stepped unreserved own lost is =
       let none = new_own no_hart 0 0 in
       let live = (keeps_live parts h from section at.follows.inside).live in
@@ -438,30 +489,47 @@ module _ (parts : Parts) (bus : BusState) (h : ℕ) (from : ModelState) (section
         beside = beside;
         each = length-set unreserved h own ∙ lost.count;
         own = subst (IsOfHart pool (state_then from h section) h)
-            (sym (get_or-set_same unreserved h own none (subst (λ n. h < n) (sym lost.count) may.exists) ∙ is)) own_then;
+            (sym (get_or-set_same unreserved h own none (subst (λ n. h < n) (sym lost.count) may.exists) ∙ is))
+            own_then;
         others = λ g other exists. subst (λ o. IsSeenAs (own_at parts.harts g) o (view_of (done_of from h section) g))
             (sym (get_or-set_other unreserved h g own none other))
             (others_then g (own_at unreserved g) other exists
             (lost.others g other exists
-            ∙ ap (λ l. unreserved_beside (λ line. has_written l (hold_in parts.pool (kept_of parts h)).entries line) (own_at parts.harts g)) live));
+            ∙ ap (λ l. unreserved_beside (λ line. has_written l (hold_in parts.pool (kept_of parts h)).entries line)
+            (own_at parts.harts g)) live));
       }
 
   pub stays : StaysInPlace from.committed (done_of from h section)
-  stays = record { base = effects.base; size = effects.size; code = effects.code; harts = effects.harts; output = effects.output }
+  stays =
+      record {
+        base = effects.base;
+        size = effects.size;
+        code = effects.code;
+        harts = effects.harts;
+        output = effects.output;
+      }
 
-pub commits_in : (parts : Parts) (bus : BusState) (hart : HartId) (from : ModelState) (section : Section) (action : Action) (after : SectionState)
-    (pool : Pooled) (cache : Slotted) (unreserved : List OwnState) (own : OwnState) → CommitsAt parts bus hart.number from section action after pool cache →
+pub commits_in : (parts : Parts) (bus : BusState) (hart : HartId) (from : ModelState) (section : Section)
+    (action : Action) (after : SectionState)
+    (pool : Pooled) (cache : Slotted) (unreserved : List OwnState) (own : OwnState) →
+    CommitsAt parts bus hart.number from section action after pool cache →
     AreUnreserved hart.number (written_by parts.pool (own_at parts.harts hart.number)) parts.harts unreserved →
     own ≡ committed_own after (own_at parts.harts hart.number) →
-    IsInState (record parts { pool = pool; bus = returned bus hart.number cache; harts = slice_set unreserved hart.number own })
+    IsInState (record parts {
+      pool = pool;
+      bus = returned bus hart.number cache;
+      harts = slice_set unreserved hart.number own;
+    })
     (section_turn from hart.number section).state
 commits_in parts bus hart from section action after pool cache unreserved own at lost is =
     let h = hart.number in
     let new = record parts { pool = pool; bus = returned bus h cache; harts = slice_set unreserved h own } in
     let turn = ap (λ t. t.state) (commits_turn from h section at.follows.rule_is) ∙ by_rule from h section in
     after_step parts new hart from section at.follows.inside
-    (subst (λ s. StaysInPlace from.committed s.committed) (sym turn) (stays parts bus h from section action after pool cache at))
-    (subst (HasStepped parts new h) (sym turn) (stepped parts bus h from section action after pool cache at unreserved own lost is))
+    (subst (λ s. StaysInPlace from.committed s.committed) (sym turn)
+    (stays parts bus h from section action after pool cache at))
+    (subst (HasStepped parts new h) (sym turn)
+    (stepped parts bus h from section action after pool cache at unreserved own lost is))
 
 -- what is owed before the section commits, in parts of which the bus and the other harts have changed, and no copy
 pub record IsBeforeCommit (parts mid : Parts) (h : ℕ) : Type 0 where
@@ -479,7 +547,8 @@ of_those parts mid h before P holds =
     (subst (λ pool. P pool (sets_in parts h) (own_at parts.harts h)) (sym before.pool) holds))
 
 pub may_take_effect : (parts mid : Parts) (h : ℕ) (from : ModelState) (section : Section) (action : Action) →
-    FollowsRule parts h from section Commits → action ≡ next_action parts h → IsBeforeCommit parts mid h → MayTakeEffect mid h action
+    FollowsRule parts h from section Commits → action ≡ next_action parts h → IsBeforeCommit parts mid h →
+    MayTakeEffect mid h action
 may_take_effect parts mid h from section action follows next before =
     let may = follows.inside.may in
     let kept = keeps_live parts h from section follows.inside in
@@ -492,7 +561,8 @@ may_take_effect parts mid h from section action follows next before =
       };
       live = of_those parts mid h before (λ pool sets own. IsSome own.section.live) (subst IsSome (sym kept.live) refl);
       release =
-          of_those parts mid h before (λ pool sets own. IfSome own.section.live (λ s. IsReleaseAction s.word s.old action))
+          of_those parts mid h before
+          (λ pool sets own. IfSome own.section.live (λ s. IsReleaseAction s.word s.old action))
           (subst (λ live. IfSome live (λ s. IsReleaseAction s.word s.old action)) (sym kept.live)
           (releases parts h from section action follows next));
       marked =
@@ -500,9 +570,9 @@ may_take_effect parts mid h from section action follows next before =
           (subst (λ c. HoldsMarked c (hold_in parts.pool (kept_of parts h)).entries) (sym kept.cache) kept.marked);
     }
 
-pub commits_over : (parts mid : Parts) (h : ℕ) (pool : Pooled) (cache : Slotted) (after : SectionState) (action : Action) →
-    IsBeforeCommit parts mid h → CommitsOver mid.pool pool (sets_in mid h) cache (kept_of mid h) after action →
-    CommitsOver parts.pool pool (sets_in parts h) cache (kept_of parts h) after action
+pub commits_over : (parts mid : Parts) (h : ℕ) (pool : Pooled) (cache : Slotted) (after : SectionState)
+    (action : Action) → IsBeforeCommit parts mid h → CommitsOver mid.pool pool (sets_in mid h) cache (kept_of mid h)
+    after action → CommitsOver parts.pool pool (sets_in parts h) cache (kept_of parts h) after action
 commits_over parts mid h pool cache after action before over =
     of_those mid parts h
     (record { pool = sym before.pool; copies = sym before.copies; count = sym before.count; own = sym before.own })
@@ -515,20 +585,25 @@ few from h section reached live =
     (sections_are_short reached.program reached.config reached.events h section reached.in_range
     (subst (λ s. section_of s h ≡ Some section) reached.state_is live)).no_more
 
-pub is_live_there : (parts : Parts) (h : ℕ) (from : ModelState) (section : Section) → FollowsRule parts h from section Commits →
-    IsSome (own_at parts.harts h).section.live
-is_live_there parts h from section follows = subst IsSome (sym (keeps_live parts h from section follows.inside).live) refl
+pub is_live_there : (parts : Parts) (h : ℕ) (from : ModelState) (section : Section) →
+    FollowsRule parts h from section Commits → IsSome (own_at parts.harts h).section.live
+is_live_there parts h from section follows =
+    subst IsSome (sym (keeps_live parts h from section follows.inside).live) refl
 
-pub can_count : (parts : Parts) (h : ℕ) (from : ModelState) (section : Section) → FollowsRule parts h from section Commits →
+pub can_count : (parts : Parts) (h : ℕ) (from : ModelState) (section : Section) →
+    FollowsRule parts h from section Commits →
     IfSome (own_at parts.harts h).section.live (λ s. s.count + 1 < 4294967296)
 can_count parts h from section follows =
     let reached = follows.inside.may.reached in
     let least = few from h section reached follows.inside.live in
     let most = at_most 2 65536 reached.config.long (ranges reached.config reached.in_range).long in
-    subst (λ live. IfSome live (λ s. s.count + 1 < 4294967296)) (sym (keeps_live parts h from section follows.inside).live) (omega (arith, least, most))
+    subst (λ live. IfSome live (λ s. s.count + 1 < 4294967296))
+    (sym (keeps_live parts h from section follows.inside).live) (omega (arith, least, most))
 
-pub counted : (parts : Parts) (h count : ℕ) (from : ModelState) (section : Section) → FollowsRule parts h from section Commits →
-    IfSome (own_at parts.harts h).section.live (λ s. count ≡ s.count + 1) → Committed count ≡ (section_turn from h section).outcome
+pub counted : (parts : Parts) (h count : ℕ) (from : ModelState) (section : Section) →
+    FollowsRule parts h from section Commits → IfSome (own_at parts.harts h).section.live (λ s. count ≡ s.count + 1) →
+    Committed count ≡ (section_turn from h section).outcome
 counted parts h count from section follows is =
-    ap Committed (subst (λ live. IfSome live (λ s. count ≡ s.count + 1)) (keeps_live parts h from section follows.inside).live is)
+    ap Committed
+    (subst (λ live. IfSome live (λ s. count ≡ s.count + 1)) (keeps_live parts h from section follows.inside).live is)
     ∙ outcome_then parts h from section follows

@@ -1,5 +1,6 @@
 -- the acquire of an armed section has been elided: the parts are in the definition's state
-use Rattle.std.proofs.Common.{◌≡◌, ◌∙◌, ℕ, suc, ◌+◌, ◌≤◌, ◌<◌, true, length, None, Some, is_some, refl, ap, sym, subst, arith}
+use Rattle.std.proofs.Common.{◌≡◌, ◌∙◌, ℕ, suc, ◌+◌, ◌≤◌, ◌<◌, true, length, None, Some, is_some, refl, ap, sym, subst}
+use Rattle.std.proofs.Common.{arith}
 use Rattle.std.specs.Prelude.{slice_set}
 use Rattle.std.proofs.lemmas.Option.{same_Some}
 use Rattle.residency.specs.Cache.{has_marks, is_resident, marked, touched}
@@ -21,7 +22,8 @@ use Rattle.engine.proofs.LentThere.{inside_caches}
 use Rattle.engine.proofs.Framed.{holds_none, told_copies, told_same}
 use Rattle.engine.proofs.KeptLive.{same_action}
 use Rattle.engine.proofs.KeptPrivate.{keeps_private, next_private, word_line_there}
-use Rattle.engine.proofs.Stepped.{IsBetween, IsCacheOf, free_between, freed_between, marked_cache, marked_formed, noted_between}
+use Rattle.engine.proofs.Stepped.{IsBetween, IsCacheOf, free_between, freed_between, marked_cache, marked_formed}
+use Rattle.engine.proofs.Stepped.{noted_between}
 use Rattle.engine.proofs.Stepped.{read_not_plain, ready_between, returned_between, stays_in_place}
 use Rattle.engine.proofs.Laws.Swaps.{IsConditionalOf, conditional_action}
 use Rattle.engine.specs.Acting.{next_action, sets_in}
@@ -57,7 +59,8 @@ marked_of from h swap =
       cache = touched (marked (hart_of from h).cache (line_number swap.word) Read) (line_number swap.word);
     }
 
-by_elides : (from : ModelState) (h : ℕ) (armed : Armed) (swap : Swap) → (by_armed_rule from h armed (Elides swap)).state ≡ state_began from h swap
+by_elides : (from : ModelState) (h : ℕ) (armed : Armed) (swap : Swap) →
+    (by_armed_rule from h armed (Elides swap)).state ≡ state_began from h swap
 unfolding by_armed_rule
 by_elides from h armed swap = refl
 
@@ -69,14 +72,16 @@ module _ (old : Parts) (hart : HartId) (armed : Armed) (swap : Swap) (from : Mod
   -- the line of its word is there
   pub line_there : is_resident (sets_in old h).residency (line_number swap.word) ≡ true
   line_there =
-      subst (λ word. is_resident (sets_in old h).residency (line_number word) ≡ true) (sym (elides_at from h armed swap follows.rule_is).word)
+      subst (λ word. is_resident (sets_in old h).residency (line_number word) ≡ true)
+      (sym (elides_at from h armed swap follows.rule_is).word)
       (word_line_there old h from armed follows.acts)
 
   -- what is marked there is the line of the word that the SC is to
   pub marked_for : (cache : Slotted) → IsReadMarked (sets_in old h) cache (line_number armed.word) →
       IsReadMarked (sets_in old h) cache (line_number swap.word)
   marked_for cache marks =
-      subst (λ word. IsReadMarked (sets_in old h) cache (line_number word)) (sym (elides_at from h armed swap follows.rule_is).word) marks
+      subst (λ word. IsReadMarked (sets_in old h) cache (line_number word))
+      (sym (elides_at from h armed swap follows.rule_is).word) marks
 
   -- the SC is the action that comes next
   pub conditional_there : (action : Action) → action ≡ next_action old h → IsConditionalOf action swap
@@ -101,7 +106,8 @@ module _ (old : Parts) (hart : HartId) (armed : Armed) (swap : Swap) (from : Mod
         marked_cache old.bus h (line_number swap.word) cache from _ (held_nothing from h) (marked_of from h swap)
         (freed_between old h from follows.acts.may) marks refl (ap is_some follows.acts.no_section) armed_there
 
-    marked_back : IsBetween (returned old.bus h cache) from (with_hart from h (marked_of from h swap)) h (marked_of from h swap)
+    marked_back : IsBetween (returned old.bus h cache) from (with_hart from h (marked_of from h swap)) h
+        (marked_of from h swap)
     marked_back =
         returned_between old.bus from _ h cache (held_nothing from h) (marked_of from h swap) inside_cache
         (freed_between old h from follows.acts.may) refl refl is_cache
@@ -110,7 +116,8 @@ module _ (old : Parts) (hart : HartId) (armed : Armed) (swap : Swap) (from : Mod
     marked_ready =
         let may = follows.acts.may in
         let k = keeps_private old h from armed follows.acts in
-        ready_between old.bus from _ h cache (held_nothing from h) inside_cache may.ready (freed_between old h from may) refl refl may.free
+        ready_between old.bus from _ h cache (held_nothing from h) inside_cache may.ready (freed_between old h from may)
+        refl refl may.free
         (marked_formed old.bus h (line_number swap.word) cache inside_cache may.ready marks)
         (λ plain.
         absurd (read_not_plain old.bus h (line_number armed.word) (cache_of from h) may.ready k.cache k.run.read plain))
@@ -123,9 +130,11 @@ module _ (old : Parts) (hart : HartId) (armed : Armed) (swap : Swap) (from : Mod
         (follows.acts.may.ready.well_formed h inside_cache) line_there)
 
     module _ (mid : BusState) (noted : LeavesNoted h 0 (returned old.bus h cache) mid) where
-      noted_back : IsBetween mid from (with_hart from h (entered swap (hart_of from h))) h (entered swap (hart_of from h))
+      noted_back : IsBetween mid from (with_hart from h (entered swap (hart_of from h))) h
+          (entered swap (hart_of from h))
       noted_back =
-          noted_between (returned old.bus h cache) mid from _ h 0 (marked_of from h swap) (entered swap (hart_of from h)) marked_back noted refl refl
+          noted_between (returned old.bus h cache) mid from _ h 0 (marked_of from h swap)
+          (entered swap (hart_of from h)) marked_back noted refl refl
           refl (sym (lives_unarmed (marked_of from h swap).cache 0 refl ∙ bits))
 
       pub agent_there : h < length mid.agents
@@ -136,7 +145,8 @@ module _ (old : Parts) (hart : HartId) (armed : Armed) (swap : Swap) (from : Mod
           free_between mid from _ h (entered swap (hart_of from h)) noted_back refl refl follows.acts.may.free
 
       module _ (bus : BusState) (same : bus.copies ≡ mid.copies) (shows : (state : ModelState) → Shows mid state →
-          Shows bus (with_hart state h (open_attempt state.config.mode h (hart_of state h)))) (rd : Reg) (address value : ℕ)
+          Shows bus (with_hart state h (open_attempt state.config.mode h (hart_of state h)))) (rd :
+          Reg) (address value : ℕ)
           (is : actions.StoreConditional rd address value ≡ next_action old h) (kept : Reserved)
           (kept_is : (own_at old.harts h).section.armed ≡ Some kept) where
         abbrev own : OwnState
@@ -158,15 +168,18 @@ module _ (old : Parts) (hart : HartId) (armed : Armed) (swap : Swap) (from : Mod
             let now = began_hart from.config.mode h swap (hart_of from h) in
             let here = hart_of-with_hart_same from h now k.below in
             let done =
-            armed_elides from.committed h (cache_of from h) armed k.old (present_at old.harts h) swap rd address value k.run k.keeps at.next at.word
+            armed_elides from.committed h (cache_of from h) armed k.old (present_at old.harts h) swap rd address value
+            k.run k.keeps at.next at.word
             (sym (is ∙ same_action old h from follows.acts.may)) in
             let section : Section = elided armed k.old swap.new in
             let same : own.section.live ≡ Some section = ap (λ r. Some (elided r.armed r.old swap.new)) reserved_is in
             let began : now.section ≡ Some section =
             ap (λ count. Some (record { count = count; word = swap.word; old = swap.old; new = swap.new }))
             (ap (λ a. suc (armed_count a)) follows.acts.armed_is ∙ one_more armed.count)
-            ∙ ap (λ word. Some (record { count = armed.count + 1; word = word; old = swap.old; new = swap.new })) at.word
-            ∙ ap (λ o. Some (record { count = armed.count + 1; word = armed.word; old = o; new = swap.new })) done.found in
+            ∙ ap (λ word. Some (record { count = armed.count + 1; word = word; old = swap.old; new = swap.new }))
+            at.word
+            ∙ ap (λ o. Some (record { count = armed.count + 1; word = armed.word; old = o; new = swap.new }))
+            done.found in
             let part : HasOwn own now = record {
               section = same ∙ sym began;
               armed = refl;
@@ -179,23 +192,28 @@ module _ (old : Parts) (hart : HartId) (armed : Armed) (swap : Swap) (from : Mod
               part = subst (HasOwn own) (sym here) part;
               view = committed_beside _ _ _ k.stands.mark ∙ was.view;
               section =
-                  subst (λ live. KeepsSectionOf old.pool (state_began from h swap) h live own.section) (sym (ap (λ hart. hart.section) here ∙ began))
+                  subst (λ live. KeepsSectionOf old.pool (state_began from h swap) h live own.section)
+                  (sym (ap (λ hart. hart.section) here ∙ began))
                   (record {
                     run =
-                        subst (KeepsRun from.committed h section (release_of (put_of (present_at old.harts h) rd.number 0)))
+                        subst (KeepsRun from.committed h section
+                        (release_of (put_of (present_at old.harts h) rd.number 0)))
                         (sym (holds_none old.pool own.section.hold k.stands.empty)) done.keeps;
                     marked =
                         nothing_marked (cache_of (state_began from h swap) h) (hold_in old.pool own.section).entries
                         (holds_none old.pool own.section.hold k.stands.empty);
                   });
               armed = tt;
-              stands = subst (λ r. IsLive own.section.marks own.section.hold (elided r.armed r.old swap.new)) (sym reserved_is)
+              stands =
+                  subst (λ r. IsLive own.section.marks own.section.hold (elided r.armed r.old swap.new))
+                  (sym reserved_is)
                   (record {
                     mark = k.stands.mark;
                     running = k.stands.running;
                     aligned = k.stands.aligned;
                     free = λ pool place low high.
-                        subst (λ entries. held entries place ≡ None) (sym (holds_none pool own.section.hold k.stands.empty)) (held_nothing_at place);
+                        subst (λ entries. held entries place ≡ None)
+                        (sym (holds_none pool own.section.hold k.stands.empty)) (held_nothing_at place);
                   });
               limit = was.limit;
               owner = was.owner;
@@ -205,9 +223,11 @@ module _ (old : Parts) (hart : HartId) (armed : Armed) (swap : Swap) (from : Mod
             one_more : (n : ℕ) → suc n ≡ n + 1
             one_more n = omega arith
 
-        pub elided_in : IsInState (record old { bus = bus; harts = slice_set old.harts h own }) (armed_turn from h armed).state
+        pub elided_in : IsInState (record old { bus = bus; harts = slice_set old.harts h own })
+            (armed_turn from h armed).state
         elided_in =
-            stepped_armed old _ hart from armed (Elides swap) (state_began from h swap) follows (by_elides from h armed swap)
+            stepped_armed old _ hart from armed (Elides swap) (state_began from h swap) follows
+            (by_elides from h armed swap)
             (stays_in_place from.committed)
             (began_stepped old h from swap bus own follows.acts.may shown
             (told_copies old.pool (returned old.bus h cache) bus _ (same ∙ noted.copies_stay)

@@ -26,18 +26,19 @@ by_rule : (from : ModelState) (h : ℕ) (section : Section) (line : ℕ) (need :
 unfolding by_section_rule
 by_rule from h section line need = refl
 
-pub misses_turn : (from : ModelState) (h : ℕ) (section : Section) (line : ℕ) (need : Need) → section_rule from h section ≡ Misses line need →
-    section_turn from h section ≡ missed from h line need
+pub misses_turn : (from : ModelState) (h : ℕ) (section : Section) (line : ℕ) (need : Need) →
+    section_rule from h section ≡ Misses line need → section_turn from h section ≡ missed from h line need
 unfolding section_turn
 misses_turn from h section line need is = ap (by_section_rule from h section) is ∙ by_rule from h section line need
 
-pub may_miss : (parts : Parts) (h : ℕ) (from : ModelState) (section : Section) (line : ℕ) (need : Need) (action : Action) →
-    FollowsRule parts h from section (Misses line need) → HasNoRequest parts.bus h → action ≡ next_action parts h →
-    IsInPlace parts.span (room_in parts) action → MayMiss parts h line
+pub may_miss : (parts : Parts) (h : ℕ) (from : ModelState) (section : Section) (line : ℕ) (need : Need)
+    (action : Action) → FollowsRule parts h from section (Misses line need) → HasNoRequest parts.bus h →
+    action ≡ next_action parts h → IsInPlace parts.span (room_in parts) action → MayMiss parts h line
 may_miss parts h from section line need action follows free is place =
     let may = follows.inside.may in
     let shows = may.is_in.shows in
-    let room : HasRoom from h section (record { line = line; need = need }) = says parts h from section (Misses line need) follows in
+    let room : HasRoom from h section (record { line = line; need = need }) =
+    says parts h from section (Misses line need) follows in
     let kept = keeps_live parts h from section follows.inside in
     let inside = inside_caches parts h from may in
     record {
@@ -45,12 +46,15 @@ may_miss parts h from section line need action follows free is place =
       may = may;
       free = free;
       in_memory =
-          touched_there (lent_copies parts.pool parts.bus.copies) from.committed (room_in parts) action (record { line = line; need = need })
+          touched_there (lent_copies parts.pool parts.bus.copies) from.committed (room_in parts) action
+          (record { line = line; need = need })
           (tells_memory parts (freed from h) may.is_in).placed
           (subst (λ span. IsInPlace span (room_in parts) action) may.is_in.span place)
-          (next.next_touch action (shown_in from h section) h (next_inside parts h from section action follows.inside is) ∙ room.wants.touches);
+          (next.next_touch action (shown_in from h section) h
+          (next_inside parts h from section action follows.inside is) ∙ room.wants.touches);
       room =
-          ap (λ ways. room_of ways (cache_in parts h).residency line) (shows.ways h (omega (arith, inside, shows.cache_each)))
+          ap (λ ways. room_of ways (cache_in parts h).residency line)
+          (shows.ways h (omega (arith, inside, shows.cache_each)))
           ∙ ap (λ cache. room_of from.config.ways cache line) kept.cache
           ∙ room.room;
     }

@@ -1,5 +1,6 @@
 -- what the rule of a hart with a live section says
-use Rattle.std.proofs.Common.{◌≡◌, ◌∙◌, ℕ, Bool, Option, Some, None, not, refl, ap, subst, ◌==◌, ◌||◌, if◌then◌else◌, inl, inr}
+use Rattle.std.proofs.Common.{◌≡◌, ◌∙◌, ℕ, Bool, Option, Some, None, not, refl, ap, subst, ◌==◌, ◌||◌, if◌then◌else◌}
+use Rattle.std.proofs.Common.{inl, inr}
 use Rattle.std.proofs.lemmas.Bool.{not-false, not-true}
 use Rattle.residency.specs.Cache.{letter_of, room_of, write_bits_of}
 use Rattle.el_base.specs.declared.outcomes.Cause.TheVariants.{Room, Lines, Long, Call, Mixed}
@@ -10,8 +11,10 @@ use Rattle.el_model.proofs.Laws.Harts.{with_hart_kept}
 use Rattle.el_model.proofs.Laws.Tests.{by_test}
 use Rattle.el_model.specs.Conflicts.{is_wanted}
 use Rattle.el_model.specs.Deed as deeds
-use Rattle.el_model.specs.Deed.{GoesFurther, GoesOn, HasRoom, IsInside, IsShort, MayCommit, MustRollBack, WantsBit, is_refused}
-use Rattle.el_model.specs.InSection.{Buffers, Commits, Misses, RollsBack, SectionRule, bit_rule, is_covered, is_full, section_rule}
+use Rattle.el_model.specs.Deed.{GoesFurther, GoesOn, HasRoom, IsInside, IsShort, MayCommit, MustRollBack, WantsBit}
+use Rattle.el_model.specs.Deed.{is_refused}
+use Rattle.el_model.specs.InSection.{Buffers, Commits, Misses, RollsBack, SectionRule, bit_rule, is_covered, is_full}
+use Rattle.el_model.specs.InSection.{section_rule}
 use Rattle.el_model.specs.InSection.{section_turn, shown_in, touch_rule}
 use Rattle.el_model.specs.State.{ModelState, Section, cache_of, hart_of}
 use Rattle.el_model.specs.Upcoming.{Touch, calls_or_stops, is_release, next_touch, stores_to_word}
@@ -42,7 +45,8 @@ bit_says state h section touch goes is =
     by_test (Says state h section) (not (room_of state.config.ways (cache_of state h) touch.line)) (RollsBack Room) _
     (λ no_room. record { touch = touch; wants = wants; no_room = not-true _ no_room })
     (λ has_room.
-    let room : HasRoom state h section touch = record { wants = wants; not_full = not_full; room = not-false _ has_room } in
+    let room : HasRoom state h section touch =
+    record { wants = wants; not_full = not_full; room = not-false _ has_room } in
     by_test (Says state h section) (is_refused state h touch) (Misses touch.line touch.need) (Buffers (Some touch))
     (λ refused. room)
     (λ granted. record { goes = goes; touches = is; coverable = inr (room, granted) }))))
@@ -52,7 +56,8 @@ touch_says : (state : ModelState) (h : ℕ) (section : Section) → GoesFurther 
 touch_says state h section goes None is = record { goes = goes; touches = is; coverable = tt }
 touch_says state h section goes (Some touch) is = bit_says state h section touch goes is
 
-rule_says : (state : ModelState) (h : ℕ) (section : Section) → IsInside state h section → Says state h section (section_rule state h section)
+rule_says : (state : ModelState) (h : ℕ) (section : Section) → IsInside state h section →
+    Says state h section (section_rule state h section)
 rule_says state h section live =
     let shown = shown_in state h section in
     by_test (Says state h section) (section.count == state.config.long) (RollsBack Long) _
@@ -69,17 +74,20 @@ rule_says state h section live =
     by_test (Says state h section) (stores_to_word shown h section.word) (RollsBack Mixed) _
     (λ mixes. record { goes_on = goes_on; releases = further; mixes = mixes })
     (λ keeps.
-    touch_says state h section (record { goes_on = goes_on; releases = further; mixes = keeps }) (next_touch shown h) refl))))
+    touch_says state h section (record { goes_on = goes_on; releases = further; mixes = keeps })
+    (next_touch shown h) refl))))
 
-pub is_inside : (parts : Parts) (h : ℕ) (from : ModelState) (section : Section) → ActsInside parts h from section → IsInside from h section
+pub is_inside : (parts : Parts) (h : ℕ) (from : ModelState) (section : Section) → ActsInside parts h from section →
+    IsInside from h section
 is_inside parts h from section inside =
     record { running = runs parts h from inside.may; free = inside.may.free; live = inside.live }
 
 -- the rule that it follows says so
-pub says : (parts : Parts) (h : ℕ) (from : ModelState) (section : Section) (rule : SectionRule) → FollowsRule parts h from section rule →
-    Says from h section rule
+pub says : (parts : Parts) (h : ℕ) (from : ModelState) (section : Section) (rule : SectionRule) →
+    FollowsRule parts h from section rule → Says from h section rule
 says parts h from section rule follows =
-    subst (Says from h section) follows.rule_is (rule_says from h section (is_inside parts h from section follows.inside))
+    subst (Says from h section) follows.rule_is
+    (rule_says from h section (is_inside parts h from section follows.inside))
 
 -- the rule does not depend on what the hart holds
 pub freed_cache : (from : ModelState) (h g : ℕ) → cache_of (freed from h) g ≡ cache_of from g
@@ -89,7 +97,8 @@ freed_full : (from : ModelState) (h : ℕ) (need : Need) → is_full (freed from
 freed_full from h Read = refl
 freed_full from h Write = ap (λ cache. write_bits_of cache == from.config.lines) (freed_cache from h h)
 
-freed_wanted : (from : ModelState) (h line : ℕ) (need : Need) → is_wanted (freed from h) h line need ≡ is_wanted from h line need
+freed_wanted : (from : ModelState) (h line : ℕ) (need : Need) →
+    is_wanted (freed from h) h line need ≡ is_wanted from h line need
 freed_wanted from h line Read = refl
 freed_wanted from h line Write = refl
 
@@ -119,11 +128,13 @@ freed_bit from h touch =
     (not (may_of (letter_of cache line) need) || wanted))
     (freed_wanted from h line need)
 
-freed_touch : (from : ModelState) (h : ℕ) (touch : Option Touch) → touch_rule (freed from h) h touch ≡ touch_rule from h touch
+freed_touch : (from : ModelState) (h : ℕ) (touch : Option Touch) →
+    touch_rule (freed from h) h touch ≡ touch_rule from h touch
 freed_touch from h None = refl
 freed_touch from h (Some touch) = freed_bit from h touch
 
-pub freed_rule : (from : ModelState) (h : ℕ) (section : Section) → section_rule (freed from h) h section ≡ section_rule from h section
+pub freed_rule : (from : ModelState) (h : ℕ) (section : Section) →
+    section_rule (freed from h) h section ≡ section_rule from h section
 freed_rule from h section =
     let shown = shown_in from h section in
     ap (λ rule.

@@ -39,7 +39,8 @@ HasBytesOf memory cache =
 
 pub record KeepsLive (parts : Parts) (h : ℕ) (from : ModelState) (section : Section) : Type 0 where
   pub run : IsCoveredRun from.committed h (cache_of from h) section
-  pub keeps : KeepsRun from.committed h section (kept_of parts h).marks.present (hold_in parts.pool (kept_of parts h)).entries
+  pub keeps : KeepsRun from.committed h section (kept_of parts h).marks.present
+      (hold_in parts.pool (kept_of parts h)).entries
   pub marked : HoldsMarked (cache_of from h) (hold_in parts.pool (kept_of parts h)).entries
   pub live : (kept_of parts h).live ≡ Some section
   pub unarmed : (kept_of parts h).armed ≡ None
@@ -57,11 +58,13 @@ covered from h section reached live =
     (subst (λ s. section_of s h ≡ Some section) reached.state_is live))
 
 -- what its cache has of memory
-has_bytes : (parts : Parts) (h : ℕ) (from : ModelState) → MayAct parts h from → HasBytesOf from.committed (cache_in parts h)
+has_bytes : (parts : Parts) (h : ℕ) (from : ModelState) → MayAct parts h from →
+    HasBytesOf from.committed (cache_in parts h)
 has_bytes parts h from may =
     subst (HasBytesOf from.committed) (lent_at parts.pool parts.bus.copies.caches h)
     (λ address low resident.
-    byte_told (lent_copies parts.pool parts.bus.copies) from.committed h address (tells_memory parts (freed from h) may.is_in) low resident)
+    byte_told (lent_copies parts.pool parts.bus.copies) from.committed h address
+    (tells_memory parts (freed from h) may.is_in) low resident)
 
 pub keeps_live : (parts : Parts) (h : ℕ) (from : ModelState) (section : Section) → ActsInside parts h from section →
     KeepsLive parts h from section
@@ -72,7 +75,8 @@ keeps_live parts h from section inside =
     let here = freed_here from h (is_there parts from h may) in
     let live = ap (λ hart. hart.section) here ∙ inside.live in
     let own_live = was.part.section ∙ live in
-    let told : KeepsSection parts.pool (freed from h) h section kept = subst (λ l. KeepsSectionOf parts.pool (freed from h) h l kept) live was.section in
+    let told : KeepsSection parts.pool (freed from h) h section kept =
+    subst (λ l. KeepsSectionOf parts.pool (freed from h) h l kept) live was.section in
     let run = covered from h section may.reached inside.live in
     let stands = subst (λ l. StandsAs kept.marks kept.hold l kept.armed) own_live was.stands in
     let none = unarmed section kept.armed kept.marks kept.hold stands in
@@ -87,7 +91,9 @@ keeps_live parts h from section inside =
       stands = subst (StandsAs kept.marks kept.hold (Some section)) none stands;
       cache = may.is_in.shows.caches h ∙ freed_cache from h h;
       bytes = has_bytes parts h from may;
-      comes = comes_to from.committed h (cache_of from h) section kept.marks.present (hold_in parts.pool kept).entries run told.run;
+      comes =
+          comes_to from.committed h (cache_of from h) section kept.marks.present
+          (hold_in parts.pool kept).entries run told.run;
     }
 
 -- the next action is that of what is committed, for the kept view, and the next one of what the section shows
@@ -97,10 +103,12 @@ same_action parts h from may =
     let view = present_at parts.harts h in
     ap (λ code. action_at (code_word code view.pc) view parts.span (room_in parts)) may.is_in.code
     ∙ ap (λ span. action_at (code_word from.committed.code view.pc) view span (room_in parts)) may.is_in.span
-    ∙ ap (λ output. action_at (code_word from.committed.code view.pc) view (span_of from.committed) (output_limit - length output)) may.is_in.output
+    ∙ ap (λ output. action_at (code_word from.committed.code view.pc) view (span_of from.committed)
+    (output_limit - length output)) may.is_in.output
 
-pub next_inside : (parts : Parts) (h : ℕ) (from : ModelState) (section : Section) (action : Action) → ActsInside parts h from section →
-    action ≡ next_action parts h → IsNext action (shown_in from h section) h
+pub next_inside : (parts : Parts) (h : ℕ) (from : ModelState) (section : Section) (action : Action) →
+    ActsInside parts h from section → action ≡ next_action parts h → IsNext action (shown_in from h section) h
 next_inside parts h from section action inside is =
     let kept = keeps_live parts h from section inside in
-    is ∙ same_action parts h from inside.may ∙ sym kept.comes.action ∙ ap (action_of (shown_in from h section)) kept.keeps.view
+    is ∙ same_action parts h from inside.may ∙ sym kept.comes.action
+    ∙ ap (action_of (shown_in from h section)) kept.keeps.view

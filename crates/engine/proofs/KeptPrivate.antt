@@ -40,11 +40,13 @@ pub record KeepsPrivate (parts : Parts) (h : ℕ) (from : ModelState) (armed : A
   pub short : IsShortArmed from.config.long armed
   pub keeps : KeepsArmed from.committed h armed old (present_at parts.harts h)
   pub stands :
-      IsArmed (own_at parts.harts h).section.marks (own_at parts.harts h).section.hold (record { armed = armed; old = old })
+      IsArmed (own_at parts.harts h).section.marks (own_at parts.harts h).section.hold
+      (record { armed = armed; old = old })
   pub cache : (cache_in parts h).residency ≡ cache_of from h
   pub comes : ComesTo from.committed (shown_armed from h armed) h (present_at parts.harts h)
 
-pub keeps_private : (parts : Parts) (h : ℕ) (from : ModelState) (armed : Armed) → ActsArmed parts h from armed → KeepsPrivate parts h from armed
+pub keeps_private : (parts : Parts) (h : ℕ) (from : ModelState) (armed : Armed) → ActsArmed parts h from armed →
+    KeepsPrivate parts h from armed
 keeps_private parts h from armed acts =
     let may = acts.may in
     let own = own_at parts.harts h in
@@ -81,20 +83,24 @@ keeps_private parts h from armed acts =
     }
 
 -- the next action is the next one of what the section shows, as it is of what is committed for the kept view
-pub next_private : (parts : Parts) (h : ℕ) (from : ModelState) (armed : Armed) (action : Action) → ActsArmed parts h from armed →
-    action ≡ next_action parts h → IsNext action (shown_armed from h armed) h
+pub next_private : (parts : Parts) (h : ℕ) (from : ModelState) (armed : Armed) (action : Action) →
+    ActsArmed parts h from armed → action ≡ next_action parts h → IsNext action (shown_armed from h armed) h
 next_private parts h from armed action acts is =
     let kept = keeps_private parts h from armed acts in
-    is ∙ same_action parts h from acts.may ∙ sym kept.comes.action ∙ ap (action_of (shown_armed from h armed)) kept.keeps.view
+    is ∙ same_action parts h from acts.may ∙ sym kept.comes.action
+    ∙ ap (action_of (shown_armed from h armed)) kept.keeps.view
 
 -- its word lies in memory, which begins with a line
-pub on_line : (parts : Parts) (h : ℕ) (from : ModelState) (armed : Armed) → ActsArmed parts h from armed → IsOnLine from.committed
+pub on_line : (parts : Parts) (h : ℕ) (from : ModelState) (armed : Armed) → ActsArmed parts h from armed →
+    IsOnLine from.committed
 on_line parts h from armed acts = omega (arith, acts.may.is_in.shows.memory.first)
 
-pub word_from : (parts : Parts) (h : ℕ) (from : ModelState) (armed : Armed) → ActsArmed parts h from armed → from.committed.base ≤ armed.word
+pub word_from : (parts : Parts) (h : ℕ) (from : ModelState) (armed : Armed) → ActsArmed parts h from armed →
+    from.committed.base ≤ armed.word
 word_from parts h from armed acts =
     let kept = keeps_private parts h from armed acts in
-    reserve_from (action_of from.committed (view_of from.committed h)) from.committed h armed.word refl (sym kept.run.reserve)
+    reserve_from (action_of from.committed (view_of from.committed h)) from.committed h armed.word refl
+    (sym kept.run.reserve)
 
 -- it is the same in what the section shows
 pub word_shown : (parts : Parts) (h : ℕ) (from : ModelState) (armed : Armed) → ActsArmed parts h from armed →

@@ -10,7 +10,8 @@ use Rattle.section_ctl.specs.Lent.{LeavesBeside}
 use Rattle.write_hold.specs.Slotted as holds
 
 -- the hart's cache is there, and there are few harts
-pub inside_caches : (parts : Parts) (h : ℕ) (from : ModelState) → MayAct parts h from → h < length parts.bus.copies.caches
+pub inside_caches : (parts : Parts) (h : ℕ) (from : ModelState) → MayAct parts h from →
+    h < length parts.bus.copies.caches
 inside_caches parts h from may = omega (arith, may.exists, may.is_in.one_each, may.is_in.shows.cache_each)
 
 pub few_harts : (parts : Parts) (h : ℕ) (from : ModelState) → MayAct parts h from → h < 8
@@ -33,8 +34,11 @@ lent_there parts h from may =
     }
 
 -- what a call leaves beside the hart's cache and its stores
-pub still_beside : (parts : Parts) (h : ℕ) (from : ModelState) (pool : Pooled) (cache : Slotted) (after : holds.Slotted) → MayAct parts h from →
-    IsLentStill parts.pool pool (sets_in parts h) cache (kept_of parts h).hold after → LeavesBeside h (hold_owner h) parts.pool pool
+pub still_beside : (parts : Parts) (h : ℕ) (from : ModelState) (pool : Pooled) (cache : Slotted)
+    (after : holds.Slotted) → MayAct parts h from → IsLentStill parts.pool pool (sets_in parts h) cache
+    (kept_of parts h).hold after → LeavesBeside h (hold_owner h) parts.pool pool
 still_beside parts h from pool cache after may still =
-    subst (λ owner. LeavesBeside owner (hold_owner h) parts.pool pool) (may.is_in.told.lent.owned h (inside_caches parts h from may))
-    (subst (λ owner. LeavesBeside (sets_in parts h).owner owner parts.pool pool) (may.is_in.harts h may.exists).owner still.beside)
+    subst (λ owner. LeavesBeside owner (hold_owner h) parts.pool pool)
+    (may.is_in.told.lent.owned h (inside_caches parts h from may))
+    (subst (λ owner. LeavesBeside (sets_in parts h).owner owner parts.pool pool)
+    (may.is_in.harts h may.exists).owner still.beside)

@@ -14,19 +14,23 @@ use Rattle.snoop.specs.Agent.{agent_at}
 use Rattle.snoop.specs.Shows.{BusState, Shows}
 
 -- the hart is there, in the state too
-pub freed_each : (parts : Parts) (state : ModelState) (h : ℕ) → MayAct parts h state → length parts.harts ≡ length state.harts
-freed_each parts state h may = may.is_in.one_each ∙ (keeps_with_hart state h (record (hart_of state h) { held_line = None })).count
+pub freed_each : (parts : Parts) (state : ModelState) (h : ℕ) → MayAct parts h state →
+    length parts.harts ≡ length state.harts
+freed_each parts state h may =
+    may.is_in.one_each ∙ (keeps_with_hart state h (record (hart_of state h) { held_line = None })).count
 
 pub is_there : (parts : Parts) (state : ModelState) (h : ℕ) → MayAct parts h state → h < length state.harts
 is_there parts state h may = subst (λ n. h < n) (freed_each parts state h may) may.exists
 
-pub freed_here : (state : ModelState) (h : ℕ) → h < length state.harts → hart_of (freed state h) h ≡ record (hart_of state h) { held_line = None }
+pub freed_here : (state : ModelState) (h : ℕ) → h < length state.harts →
+    hart_of (freed state h) h ≡ record (hart_of state h) { held_line = None }
 freed_here state h below = hart_of-with_hart_same state h (record (hart_of state h) { held_line = None }) below
 
 -- a hart that becomes another becomes it in place of the freed one
 pub freed_then : (state : ModelState) (h : ℕ) (hart : Hart) → with_hart (freed state h) h hart ≡ with_hart state h hart
 freed_then state h hart =
-    ap (λ harts. record state { harts = harts }) (set-set state.harts h (record (hart_of state h) { held_line = None }) hart)
+    ap (λ harts. record state { harts = harts })
+    (set-set state.harts h (record (hart_of state h) { held_line = None }) hart)
 
 -- another hart in the place of one, the same but for what the bus keeps
 pub same_each : (state : ModelState) (h : ℕ) (hart : Hart) → IsSameHart (hart_of state h) hart → (g : ℕ) →
@@ -59,7 +63,8 @@ missed_is state h line need below =
 
 pub after_missed : (old : Parts) (bus : BusState) (state : ModelState) (h line : ℕ) (need : Need) → MayAct old h state →
     bus.copies ≡ old.bus.copies →
-    ((from : ModelState) → Shows old.bus from → Shows bus (with_hart from h (missed_hart h line need (hart_of from h)))) →
+    ((from : ModelState) → Shows old.bus from →
+    Shows bus (with_hart from h (missed_hart h line need (hart_of from h)))) →
     IsInState (record old { bus = bus }) (missed state h line need).state
 after_missed old bus state h line need may copies shows =
     let from = freed state h in
@@ -67,5 +72,13 @@ after_missed old bus state h line need may copies shows =
     subst (IsInState (record old { bus = bus })) (missed_is state h line need (is_there old state h may))
     (with_bus old bus from (with_hart from h hart) may.is_in (keeps_with_hart from h hart)
     (same_each from h hart
-    (record { section = refl; armed = refl; last_lr = refl; cache = refl; predictor = refl; fallback = refl; tries = refl }))
+    (record {
+      section = refl;
+      armed = refl;
+      last_lr = refl;
+      cache = refl;
+      predictor = refl;
+      fallback = refl;
+      tries = refl;
+    }))
     copies (shows from may.is_in.shows))

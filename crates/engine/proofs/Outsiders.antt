@@ -17,7 +17,8 @@ use Rattle.engine.specs.Acting.{ActsOutside}
 use Rattle.engine.specs.Parts.{Parts}
 use Rattle.engine.specs.Turns.{TakesTurn}
 
-acting_turn : (parts : Parts) (h : ℕ) (state : ModelState) → ActsOutside parts h state → step_turn state h ≡ plain_turn state h
+acting_turn : (parts : Parts) (h : ℕ) (state : ModelState) → ActsOutside parts h state →
+    step_turn state h ≡ plain_turn state h
 unfolding step_turn
 acting_turn parts h state acts =
     ap (status_turn state h) (runs_there parts h state acts)
@@ -25,7 +26,8 @@ acting_turn parts h state acts =
     ∙ ap (going_turn state h) acts.no_section ∙ ap (outside_turn state h) acts.no_armed
 
 -- what the rule says, the turn is
-pub turn_is : (state : ModelState) (h : ℕ) (rule : PlainRule) → plain_rule state h ≡ rule → plain_turn state h ≡ by_plain_rule state h rule
+pub turn_is : (state : ModelState) (h : ℕ) (rule : PlainRule) → plain_rule state h ≡ rule →
+    plain_turn state h ≡ by_plain_rule state h rule
 unfolding plain_turn
 turn_is state h rule is = ap (by_plain_rule state h) is
 
@@ -33,8 +35,9 @@ turn_is state h rule is = ap (by_plain_rule state h) is
 abbrev pub step_of : HartId → Event
 step_of hart = record { kind = kinds.Step; hart = hart }
 
-pub step_is : (parts : Parts) (hart : HartId) (state : ModelState) (rule : PlainRule) → ActsOutside parts hart.number state →
-    plain_rule state hart.number ≡ rule → next state (step_of hart) ≡ by_plain_rule state hart.number rule
+pub step_is : (parts : Parts) (hart : HartId) (state : ModelState) (rule : PlainRule) →
+    ActsOutside parts hart.number state → plain_rule state hart.number ≡ rule →
+    next state (step_of hart) ≡ by_plain_rule state hart.number rule
 unfolding next
 step_is parts hart state rule acts is = acting_turn parts hart.number state acts ∙ turn_is state hart.number rule is
 

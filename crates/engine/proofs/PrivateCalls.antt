@@ -40,14 +40,15 @@ module _ (old : Parts) (h : ℕ) (armed : Armed) (from : ModelState) where
       subst (λ o. IsSome o.section.armed) (sym is) (subst IsSome (sym (keeps_private old h from armed acts).is) refl)
 
   -- what a call says of the armed section
-  pub of_armed : ActsArmed old h from armed → (own : OwnState) → own ≡ own_at old.harts h → (P : Reserved → Type 0) → IfSome own.section.armed P →
-      (kept : Reserved) → (own_at old.harts h).section.armed ≡ Some kept → P kept
+  pub of_armed : ActsArmed old h from armed → (own : OwnState) → own ≡ own_at old.harts h → (P : Reserved → Type 0) →
+      IfSome own.section.armed P → (kept : Reserved) → (own_at old.harts h).section.armed ≡ Some kept → P kept
   of_armed acts own is P told kept kept_is = subst (λ r. IfSome r P) (ap (λ o. o.section.armed) is ∙ kept_is) told
 
   module _ (follows : FollowsArmed old h armed Continues from) (action : Action) (is : action ≡ next_action old h) where
     is_quiet_there : is_quiet_action action ≡ true
     is_quiet_there =
-        same_quiet action ∙ next_quiet action (shown_armed from h armed) h (next_private old h from armed action follows.acts is)
+        same_quiet action ∙ next_quiet action (shown_armed from h armed) h
+        (next_private old h from armed action follows.acts is)
         ∙ (continues_at from h armed follows.rule_is).quiet
 
     pub untouched : touch_of (footprint action) ≡ None
@@ -60,7 +61,8 @@ module _ (old : Parts) (h : ℕ) (armed : Armed) (from : ModelState) where
         let may = follows.acts.may in
         let reached = may.reached in
         let few = subst (λ s. write_bits_of (cache_of s h) ≤ reached.config.lines) (sym reached.state_is)
-        (written_lines_are_few reached.program reached.config reached.events reached.one_hart_each reached.in_range h) in
+        (written_lines_are_few reached.program reached.config reached.events reached.one_hart_each
+        reached.in_range h) in
         let same = ap write_bits_of (keeps_private old h from armed follows.acts).cache in
         let limit : (kept_of old h).hold.limit ≡ reached.config.lines =
         (may.is_in.harts h may.exists).limit ∙ ap (λ config. config.lines) (config_of from reached) in
@@ -73,7 +75,10 @@ module _ (old : Parts) (h : ℕ) (armed : Armed) (from : ModelState) where
         record {
           there = lent_there old h from follows.acts.may;
           either = ap (λ live. is_some live || is_some (kept_of old h).armed) k.live ∙ ap is_some k.is;
-          buffered = subst (λ live. IfSome live (λ section. MayBuffer old.pool (kept_of old h) section (cache_in old h) action)) (sym k.live) tt;
+          buffered =
+              subst
+              (λ live. IfSome live (λ section. MayBuffer old.pool (kept_of old h) section (cache_in old h) action))
+              (sym k.live) tt;
           counted = subst (λ live. IfSome live (λ section. section.count + 1 < 4294967296)) (sym k.live) tt;
           quiet =
               subst (λ r. IfSome r (λ reserved. MayContinue reserved action)) (sym k.is)

@@ -19,7 +19,8 @@ use Rattle.core_step.proofs.Laws.Runs.{is_permitted}
 use Rattle.core_step.specs.Run.{lacking}
 use Rattle.el_base.specs.Line.{line_number}
 use Rattle.el_base.specs.declared.outcomes.Need.TheVariants.{Read}
-use Rattle.el_model.specs.Plain.{acquire_pc, after_candidate, after_touch, armed_count, candidate_of, last_reserve, ran_hart, watched}
+use Rattle.el_model.specs.Plain.{acquire_pc, after_candidate, after_touch, armed_count, candidate_of, last_reserve}
+use Rattle.el_model.specs.Plain.{ran_hart, watched}
 use Rattle.el_model.specs.State.{Hart, ModelState, hart_of}
 use Rattle.el_model.specs.Upcoming.{Swap, touch_of}
 use Rattle.el_model.proofs.Laws.HartParts.{candidate_armed, candidate_cache, candidate_section}
@@ -27,7 +28,8 @@ use Rattle.coherence.proofs.Laws.Offered.{leaves_owner}
 use Rattle.engine.proofs.Framed.{told_back}
 use Rattle.engine.proofs.LeftBehind.{TellsPiece}
 use Rattle.engine.proofs.Misses.{freed_here, freed_then}
-use Rattle.engine.proofs.StandsOutside.{action_is, has_cache, in_memory, inside, lent_here, none_armed, none_marked, runs_there, tells_there, view_is}
+use Rattle.engine.proofs.StandsOutside.{action_is, has_cache, in_memory, inside, lent_here, none_armed, none_marked}
+use Rattle.engine.proofs.StandsOutside.{runs_there, tells_there, view_is}
 use Rattle.engine.specs.Acting.{ActsOutside, cache_in, freed, next_action, sets_in}
 use Rattle.engine.specs.Effect.{CanAppend}
 use Rattle.engine.specs.Outside.{HasRunOver, execution_in}
@@ -51,18 +53,23 @@ use Rattle.snoop.specs.Returned.{IsReturnedAs, returned, state_with}
 use Rattle.snoop.specs.Shows.{IsReady, Shows, Tells, lent_copies}
 
 -- what a candidate leaves of a hart, and learning of what the hart keeps
-candidate_agent : (pc : Option ℕ) (had : Bool) (swap : Option Swap) (hart : Hart) → agent_of (after_candidate pc had swap hart) ≡ agent_of hart
+candidate_agent : (pc : Option ℕ) (had : Bool) (swap : Option Swap) (hart : Hart) →
+    agent_of (after_candidate pc had swap hart) ≡ agent_of hart
 candidate_agent pc had None hart = refl
 candidate_agent pc had (Some swap) hart = refl
 
-candidate_kept : (pc : Option ℕ) (had : Bool) (swap : Option Swap) (own : OwnState) → (candidate_own pc had swap own).section ≡ own.section
+candidate_kept : (pc : Option ℕ) (had : Bool) (swap : Option Swap) (own : OwnState) →
+    (candidate_own pc had swap own).section ≡ own.section
 candidate_kept pc had None own = refl
 candidate_kept pc had (Some swap) own = refl
 
 pub ran_kept : (state : ModelState) (h : ℕ) (own : OwnState) → (ran_own state h own).section ≡ own.section
 ran_kept state h own =
     candidate_kept (own_acquire_pc state h own) (is_some own.predictor.watch) (candidate_of state h)
-    (record own { last_lr = last_reserve state h own.last_lr; predictor = watched state h own.predictor own.predictor.watch })
+    (record own {
+      last_lr = last_reserve state h own.last_lr;
+      predictor = watched state h own.predictor own.predictor.watch;
+    })
 
 -- the hart then
 abbrev pub hart_ran : ModelState → ℕ → Action → Hart
@@ -100,19 +107,24 @@ module _ (parts : Parts) (h : ℕ) (state : ModelState) (action : Action) (acts 
       ∙ subst (λ c. perform (action_of state.committed view) view (cached_byte c) ≡ execution_of state.committed view)
       (lent_here parts h state acts)
       (performs_flat (lent_copies parts.pool parts.bus.copies) state.committed h view (tells_there parts h state acts)
-      (subst (IsInPlace (span_of state.committed) (room_of state.committed)) same (in_memory parts h state acts action place))
-      (subst (λ c. lacking (permitted c) (footprint (action_of state.committed view)) ≡ None) (sym (lent_here parts h state acts))
+      (subst (IsInPlace (span_of state.committed) (room_of state.committed)) same
+      (in_memory parts h state acts action place))
+      (subst (λ c. lacking (permitted c) (footprint (action_of state.committed view)) ≡ None)
+      (sym (lent_here parts h state acts))
       (subst (λ a. lacking (permitted (cache_in parts h)) (footprint a) ≡ None) same none)))
 
   -- caches and main memory tell the bytes after it
-  tells_after : TellsOf (copies_with (lent_copies parts.pool parts.bus.copies) h after) (line_of (flat state.committed h))
+  tells_after : TellsOf (copies_with (lent_copies parts.pool parts.bus.copies) h after)
+      (line_of (flat state.committed h))
   tells_after =
       let view = present_at parts.harts h in
       let copies = lent_copies parts.pool parts.bus.copies in
       let told =
-      tells_memory_after copies state.committed h (room_of state.committed) after action view (cached_byte (cache_in parts h))
+      tells_memory_after copies state.committed h (room_of state.committed) after action view
+      (cached_byte (cache_in parts h))
       (tells_there parts h state acts) (in_memory parts h state acts action place)
-      (subst (λ c. HasRun c after action (store_in (execution_in parts h action))) (sym (lent_here parts h state acts)) over.has_run) in
+      (subst (λ c. HasRun c after action (store_in (execution_in parts h action))) (sym (lent_here parts h state acts))
+      over.has_run) in
       subst (λ s. TellsOf (copies_with copies h after) (line_of s))
       (ap (λ v. applied state.committed h v (execution_in parts h action)) (view_is parts h state acts)
       ∙ ap (applied state.committed h (view_of state.committed h)) same_execution
@@ -127,7 +139,8 @@ module _ (parts : Parts) (h : ℕ) (state : ModelState) (action : Action) (acts 
 
   pub ran_told : Tells pool (returned parts.bus h cache) (line_of (flat state.committed h))
   ran_told =
-      told_back parts.pool pool parts.bus h cache _ _ acts.may.is_in.told (has_cache parts h state acts) over.owner over.kept leaves tells_after
+      told_back parts.pool pool parts.bus h cache _ _ acts.may.is_in.told (has_cache parts h state acts) over.owner
+      over.kept leaves tells_after
 
   agent_stays : agent_of (hart_ran state h action) ≡ agent_of (hart_of (freed state h) h)
   agent_stays =
@@ -151,7 +164,8 @@ module _ (parts : Parts) (h : ℕ) (state : ModelState) (action : Action) (acts 
 
   pub armed_none : (hart_ran state h action).armed ≡ None
   armed_none =
-      candidate_armed (acquire_pc state h) (is_some (hart_of state h).predictor.watch) (candidate_of state h) (seen_hart state h action)
+      candidate_armed (acquire_pc state h) (is_some (hart_of state h).predictor.watch) (candidate_of state h)
+      (seen_hart state h action)
       ∙ acts.no_armed
 
   returns_as : IsReturnedAs parts.bus (freed state h) h cache (hart_ran state h action) (flat state.committed h)
@@ -164,7 +178,8 @@ module _ (parts : Parts) (h : ℕ) (state : ModelState) (action : Action) (acts 
         live =
             ap is_some section_none
             ∙ sym (ap (λ marks. marks && (armed_count (hart_ran state h action).armed == 0))
-            ((stays_in_form (cache_in parts h) after action _ (acts.may.ready.well_formed h (has_cache parts h state acts)) over.has_run).marks
+            ((stays_in_form (cache_in parts h) after action _
+            (acts.may.ready.well_formed h (has_cache parts h state acts)) over.has_run).marks
             ∙ none_marked parts h state acts));
         armed = ap is_some armed_none ∙ sym (ap is_some (none_armed parts h state acts));
         memory = record {
@@ -176,8 +191,10 @@ module _ (parts : Parts) (h : ℕ) (state : ModelState) (action : Action) (acts 
   pub ran_shows : Shows (returned parts.bus h cache) (state_ran state h action)
   ran_shows =
       subst (Shows (returned parts.bus h cache))
-      (ap {A = ModelState} (λ s. record s { committed = flat state.committed h }) (freed_then state h (hart_ran state h action)))
-      (shows_returned parts.bus (freed state h) h cache (hart_ran state h action) (flat state.committed h) (has_cache parts h state acts)
+      (ap {A = ModelState} (λ s. record s { committed = flat state.committed h })
+      (freed_then state h (hart_ran state h action)))
+      (shows_returned parts.bus (freed state h) h cache (hart_ran state h action) (flat state.committed h)
+      (has_cache parts h state acts)
       acts.may.is_in.shows returns_as)
 
   pub ran_ready : HasNoRequest parts.bus h → IsReady (returned parts.bus h cache)
@@ -190,13 +207,15 @@ module _ (parts : Parts) (h : ℕ) (state : ModelState) (action : Action) (acts 
       (λ plain. form.marks ∙ none_marked parts h state acts))
 
 -- the bytes that an action appends are there, and are those of memory
-append_there : (parts : Parts) (h address len : ℕ) → lacking (permitted (cache_in parts h)) (footprint (actions.Append address len)) ≡ None →
+append_there : (parts : Parts) (h address len : ℕ) →
+    lacking (permitted (cache_in parts h)) (footprint (actions.Append address len)) ≡ None →
     is_resident (cache_in parts h).residency (line_number address) ≡ true
 append_there parts h address len none =
-    readable_there (cache_in parts h).residency (line_number address) (is_permitted (permitted (cache_in parts h)) (line_number address) Read none)
+    readable_there (cache_in parts h).residency (line_number address)
+    (is_permitted (permitted (cache_in parts h)) (line_number address) Read none)
 
-pub can_append : (parts : Parts) (h room : ℕ) (span : Span) (action : Action) (cache : Cached) → IsInPlace span room action →
-    lacking (permitted (cache_in parts h)) (footprint action) ≡ None →
+pub can_append : (parts : Parts) (h room : ℕ) (span : Span) (action : Action) (cache : Cached) →
+    IsInPlace span room action → lacking (permitted (cache_in parts h)) (footprint action) ≡ None →
     HasRun (cache_in parts h) cache action (store_in (execution_in parts h action)) → CanAppend cache room action
 can_append parts h room span (actions.Append address len) cache place none run = record {
   resident = copy_resident cache (line_number address) _ (run.copies (line_number address)
@@ -217,13 +236,16 @@ can_append parts h room span (actions.StoreConditional rd address value) cache p
 can_append parts h room span (actions.Fail rd) cache place none run = tt
 can_append parts h room span (actions.Amo op rd address source) cache place none run = tt
 
-pub tells_piece : (parts : Parts) (h : ℕ) (state : ModelState) (action : Action) (cache : Cached) → ActsOutside parts h state →
-    lacking (permitted (cache_in parts h)) (footprint action) ≡ None →
-    HasRun (cache_in parts h) cache action (store_in (execution_in parts h action)) → TellsPiece cache state.committed action
+pub tells_piece : (parts : Parts) (h : ℕ) (state : ModelState) (action : Action) (cache : Cached) →
+    ActsOutside parts h state → lacking (permitted (cache_in parts h)) (footprint action) ≡ None →
+    HasRun (cache_in parts h) cache action (store_in (execution_in parts h action)) →
+    TellsPiece cache state.committed action
 tells_piece parts h state (actions.Append address len) cache acts none run =
     same_bytes (cache_in parts h) cache (line_number address) (run.copies (line_number address))
-    ∙ subst (λ c. bytes_of c (line_number address) ≡ line_of state.committed (line_number address)) (lent_here parts h state acts)
-    (copy_tells (lent_copies parts.pool parts.bus.copies) h (line_number address) (line_of state.committed) acts.may.is_in.told.told
+    ∙ subst (λ c. bytes_of c (line_number address) ≡ line_of state.committed (line_number address))
+    (lent_here parts h state acts)
+    (copy_tells (lent_copies parts.pool parts.bus.copies) h (line_number address) (line_of state.committed)
+    acts.may.is_in.told.told
     (subst (λ (c : Cached). is_resident c.residency (line_number address) ≡ true) (sym (lent_here parts h state acts))
     (append_there parts h address len none)))
 tells_piece parts h state (actions.Trap cause) cache acts none run = tt

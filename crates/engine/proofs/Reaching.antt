@@ -27,12 +27,13 @@ use Rattle.step_laws.specs.Survivors.{IsNoStepOf, Survives}
 pub config_of : (state : ModelState) (reached : IsReached state) → state.config ≡ reached.config
 config_of state reached =
     ap (λ s. s.config) reached.state_is
-    ∙ kept_after (λ s. s.config ≡ reached.config) (λ s event is. next_config s event ∙ is) (begin reached.program reached.config) reached.events
+    ∙ kept_after (λ s. s.config ≡ reached.config) (λ s event is. next_config s event ∙ is)
+    (begin reached.program reached.config) reached.events
     (begin_config reached.program reached.config)
 
 -- where a step is left, one event more is reached
-pub next_reached : (state : ModelState) (event : Event) (reached : IsReached state) → length reached.events < reached.config.steps →
-    IsReached (next state event).state
+pub next_reached : (state : ModelState) (event : Event) (reached : IsReached state) →
+    length reached.events < reached.config.steps → IsReached (next state event).state
 next_reached state event reached left = record {
   program = reached.program;
   config = reached.config;
@@ -54,11 +55,13 @@ numbered state reached =
     (requests_are_numbered reached.program reached.config reached.events reached.one_hart_each reached.in_range)
 
 -- a hart that an event names among its losers loses its live section
-pub loses : (state : ModelState) (event : Event) (g winner : ℕ) → IsReached state → winner_over (next state event).outcome g ≡ Some winner →
-    LosesItsSection state event g winner
+pub loses : (state : ModelState) (event : Event) (g winner : ℕ) → IsReached state →
+    winner_over (next state event).outcome g ≡ Some winner → LosesItsSection state event g winner
 loses state event g winner reached =
-    subst (λ s. winner_over (next s event).outcome g ≡ Some winner → LosesItsSection s event g winner) (sym reached.state_is)
-    (only_live_sections_lose reached.program reached.config reached.events event g winner reached.one_hart_each reached.in_range)
+    subst (λ s. winner_over (next s event).outcome g ≡ Some winner → LosesItsSection s event g winner)
+    (sym reached.state_is)
+    (only_live_sections_lose reached.program reached.config reached.events event g winner reached.one_hart_each
+    reached.in_range)
 
 -- the private run of an armed section
 pub runs_armed : (state : ModelState) (g : ℕ) (armed : Armed) → IsReached state → armed_of state g ≡ Some armed →
@@ -76,25 +79,29 @@ small_armed state g armed reached is =
     (subst (λ s. armed_of s g ≡ Some armed) reached.state_is is))
 
 -- a step of another hart leaves each armed section, and changes what is committed beside its hart alone
-pub other_step_beside : (state : ModelState) (event : Event) (g : ℕ) → IsReached state → event.hart.number ≢ g → event.kind ≡ kinds.Step →
-    IsChangeBeside g (cache_of state g) state.committed (next state event).state.committed
+pub other_step_beside : (state : ModelState) (event : Event) (g : ℕ) → IsReached state → event.hart.number ≢ g →
+    event.kind ≡ kinds.Step → IsChangeBeside g (cache_of state g) state.committed (next state event).state.committed
 other_step_beside state event g reached other step =
     subst (λ s. IsChangeBeside g (cache_of s g) s.committed (next s event).state.committed) (sym reached.state_is)
     (other_harts_change_nothing_covered reached.program reached.config reached.events event g reached.bytes other
     (λ armed. ap (λ hart. is_some hart.armed)
-    ((steps_keep_others (after reached.program reached.config reached.events) event step).others g (λ same. other (sym same))) ∙ armed))
+    ((steps_keep_others (after reached.program reached.config reached.events) event step).others g
+    (λ same. other (sym same))) ∙ armed))
 
 -- an event of the bus leaves armed harts, but those that it lets go
 pub lets_go : (state : ModelState) (event : Event) → IsReached state → event.kind ≢ kinds.Step →
     LetsHartsGo state (next state event).state (freed_of_outcome (next state event).outcome)
 lets_go state event reached bus =
     subst (λ s. LetsHartsGo s (next s event).state (freed_of_outcome (next s event).outcome)) (sym reached.state_is)
-    (bus_events_let_harts_go reached.program reached.config reached.events event reached.bytes reached.one_hart_each reached.in_range bus)
+    (bus_events_let_harts_go reached.program reached.config reached.events event reached.bytes reached.one_hart_each
+    reached.in_range bus)
 
 -- a section that is live after an event that is no step of its hart survives it
-pub survives_event : (state : ModelState) (event : Event) (g : ℕ) (section : Section) → IsReached state → IsNoStepOf g event →
-    section_of state g ≡ Some section → is_live (next state event).state g ≡ true → Survives state (next state event).state g section
+pub survives_event : (state : ModelState) (event : Event) (g : ℕ) (section : Section) → IsReached state →
+    IsNoStepOf g event → section_of state g ≡ Some section → is_live (next state event).state g ≡ true →
+    Survives state (next state event).state g section
 survives_event state event g section reached other =
-    subst (λ s. section_of s g ≡ Some section → is_live (next s event).state g ≡ true → Survives s (next s event).state g section)
+    subst (λ s. section_of s g ≡ Some section → is_live (next s event).state g ≡ true →
+    Survives s (next s event).state g section)
     (sym reached.state_is)
     (survivors_keep_what_they_show reached.program reached.config reached.events event g section reached.bytes other)

@@ -1,5 +1,6 @@
 -- the harts and their pool as an event of the bus goes through them
-use Rattle.std.proofs.Common.{◌≡◌, ◌≢◌, ◌∙◌, ℕ, ◌+◌, ◌≤◌, ◌<◌, ◌==◌, Bool, true, false, if◌then◌else◌, List, Option, Some, None, length, refl, ap}
+use Rattle.std.proofs.Common.{◌≡◌, ◌≢◌, ◌∙◌, ℕ, ◌+◌, ◌≤◌, ◌<◌, ◌==◌, Bool, true, false, if◌then◌else◌, List, Option}
+use Rattle.std.proofs.Common.{Some, None, length, refl, ap}
 use Rattle.std.proofs.Common.{sym, subst, inl, inr, arith}
 use Rattle.std.specs.Prelude.{slice_set}
 use Rattle.std.proofs.lemmas.Bool.{cases_eq}
@@ -25,7 +26,8 @@ pub record IsRestoredBelow (below : ℕ) (mode : Mode) (winner : ℕ → Option 
   pub kept : LeavesKeptBelow below winner before pool
 
 -- what an event leaves to a hart
-pub record IsRestoredAs (mode : Mode) (winner : Option ℕ) (count : ℕ) (before pool : Pooled) (old new : OwnState) : Type 0 where
+pub record IsRestoredAs (mode : Mode) (winner : Option ℕ) (count : ℕ) (before pool : Pooled)
+    (old new : OwnState) : Type 0 where
   pub own : new ≡ own_after mode winner count old
   pub lent : IsLent pool new.section.hold
   pub others : LeavesOthers old.section.hold.owner before pool
@@ -40,8 +42,10 @@ same_owner mode None count own = by (count == 0)
     by true = refl
     by false = refl
 
-module _ (below : ℕ) (mode : Mode) (winner : ℕ → Option ℕ) (count : ℕ → ℕ) (first before pool : Pooled) (old new : List OwnState) (own : OwnState)
-    (so_far : IsRestoredBelow below mode winner count first before old new) (inside : below < length new) (few : length new ≤ 8)
+module _ (below : ℕ) (mode : Mode) (winner : ℕ → Option ℕ) (count : ℕ → ℕ) (first before pool : Pooled)
+    (old new : List OwnState) (own : OwnState)
+    (so_far : IsRestoredBelow below mode winner count first before old new) (inside : below < length new)
+    (few : length new ≤ 8)
     (is : IsRestoredAs mode (winner below) (count below) before pool (own_at new below) own) where
   was : own_at new below ≡ own_at old below
   was = so_far.harts.above below (omega arith)
@@ -66,7 +70,8 @@ module _ (below : ℕ) (mode : Mode) (winner : ℕ → Option ℕ) (count : ℕ 
 
   then_hart : (g : ℕ) → LeavesOwner (hold_owner g) first before → g ≢ below → LeavesOwner (hold_owner g) first pool
   then_hart g left apart =
-      leaves_owner-then (hold_owner g) first before pool left (still (hold_owner g) (λ same. apart (omega (arith, same))))
+      leaves_owner-then (hold_owner g) first before pool left
+      (still (hold_owner g) (λ same. apart (omega (arith, same))))
 
   kept_holds : (g : ℕ) → winner g ≡ None → LeavesOwner (hold_owner g) first pool
   kept_holds g none = elim (cases_eq g below) [
@@ -86,14 +91,18 @@ module _ (below : ℕ) (mode : Mode) (winner : ℕ → Option ℕ) (count : ℕ 
             (here ∙ is.own ∙ ap (own_after mode (winner below) (count below)) was)
         | inr other ↦ elsewhere g other ∙ so_far.harts.done g (omega (arith, within, other))
       ];
-      above = λ g from. elsewhere g (λ same. absurd (omega (arith, same, from))) ∙ so_far.harts.above g (omega (arith, from));
+      above =
+          λ g from. elsewhere g (λ same. absurd (omega (arith, same, from)))
+          ∙ so_far.harts.above g (omega (arith, from));
     };
     lent = λ g within. elim (cases_eq g below) [
       | inl same ↦
           subst (λ k. LendsHold pool k (own_at next k)) (sym same)
           (subst (LendsHold pool below) (sym here)
           (record {
-            owner = ap (λ (o : OwnState). o.section.hold.owner) is.own ∙ same_owner mode (winner below) (count below) (own_at new below) ∙ hold.owner;
+            owner =
+                ap (λ (o : OwnState). o.section.hold.owner) is.own ∙ same_owner mode (winner below) (count below)
+                (own_at new below) ∙ hold.owner;
             lent = is.lent;
           }))
       | inr other ↦
@@ -114,24 +123,31 @@ module _ (below : ℕ) (mode : Mode) (winner : ℕ → Option ℕ) (count : ℕ 
             (still owner (λ same. absurd (omega (arith, same, less))));
         holds = kept_holds;
       };
-      above = λ g from. then_hart g (so_far.kept.above g (omega (arith, from))) (λ same. absurd (omega (arith, same, from)));
+      above =
+          λ g from. then_hart g (so_far.kept.above g (omega (arith, from)))
+          (λ same. absurd (omega (arith, same, from)));
     };
   }
 
 -- before the first of them, and after the last
-pub restored_none : (mode : Mode) (winner : ℕ → Option ℕ) (count : ℕ → ℕ) (pool : Pooled) (harts : List OwnState) → LendsHolds pool harts →
-    IsRestoredBelow 0 mode winner count pool pool harts harts
+pub restored_none : (mode : Mode) (winner : ℕ → Option ℕ) (count : ℕ → ℕ) (pool : Pooled) (harts : List OwnState) →
+    LendsHolds pool harts → IsRestoredBelow 0 mode winner count pool pool harts harts
 restored_none mode winner count pool harts lent = record {
   harts = record { number = refl; done = λ g within. absurd (omega (arith, within)); above = λ g from. refl };
   lent = lent;
   kept = record {
-    kept = record { caches = λ owner less. leaves_owner-same owner pool; holds = λ g none. leaves_owner-same (hold_owner g) pool };
+    kept =
+        record {
+          caches = λ owner less. leaves_owner-same owner pool;
+          holds = λ g none. leaves_owner-same (hold_owner g) pool;
+        };
     above = λ g from. leaves_owner-same (hold_owner g) pool;
   };
 }
 
-pub restored_all : (below : ℕ) (mode : Mode) (winner : ℕ → Option ℕ) (count : ℕ → ℕ) (before pool : Pooled) (old new : List OwnState) →
-    length new ≤ below → IsRestoredBelow below mode winner count before pool old new → AreRestored mode winner count old new
+pub restored_all : (below : ℕ) (mode : Mode) (winner : ℕ → Option ℕ) (count : ℕ → ℕ) (before pool : Pooled)
+    (old new : List OwnState) → length new ≤ below → IsRestoredBelow below mode winner count before pool old new →
+    AreRestored mode winner count old new
 restored_all below mode winner count before pool old new all done = record {
   number = done.harts.number;
   each = λ g within. done.harts.done g (omega (arith, within, all, done.harts.number));

@@ -50,40 +50,47 @@ use Rattle.write_hold.specs.Slotted.{IsLent}
 abbrev hart_then : ModelState → ℕ → Cause → Hart
 hart_then from h cause = rolled_back cause (view_of from.committed h).pc (record (hart_of from h) { held_line = None })
 
-by_rule : (from : ModelState) (h : ℕ) (section : Section) (cause : Cause) → by_section_rule from h section (RollsBack cause) ≡
+by_rule : (from : ModelState) (h : ℕ) (section : Section) (cause : Cause) →
+    by_section_rule from h section (RollsBack cause) ≡
     record { state = with_hart from h (hart_then from h cause); outcome = RolledBack cause }
 unfolding by_section_rule
 by_rule from h section cause = refl
 
-pub rolls_turn : (from : ModelState) (h : ℕ) (section : Section) (cause : Cause) → section_rule from h section ≡ RollsBack cause →
-    section_turn from h section ≡ record { state = with_hart from h (hart_then from h cause); outcome = RolledBack cause }
+pub rolls_turn : (from : ModelState) (h : ℕ) (section : Section) (cause : Cause) →
+    section_rule from h section ≡ RollsBack cause → section_turn from h section
+    ≡ record { state = with_hart from h (hart_then from h cause); outcome = RolledBack cause }
 unfolding section_turn
 rolls_turn from h section cause is = ap (by_section_rule from h section) is ∙ by_rule from h section cause
 
 -- no clock comes near to the last one
 clocks_up_to : (from : ModelState) (reached : IsReached from) → AreClocksUpTo (length reached.events) from
 clocks_up_to from reached =
-    subst (AreClocksUpTo (length reached.events)) (sym reached.state_is) (clocks_are_few reached.program reached.config reached.events)
+    subst (AreClocksUpTo (length reached.events)) (sym reached.state_is)
+    (clocks_are_few reached.program reached.config reached.events)
 
 few_events : (from : ModelState) (reached : IsReached from) → length reached.events ≤ MAX_STEPS
 few_events from reached =
     let most = at_most 1 MAX_STEPS reached.config.steps (ranges reached.config reached.in_range).steps in
     omega (arith, reached.within, most)
 
-pub clock_small : (parts : Parts) (h : ℕ) (from : ModelState) → MayAct parts h from → (agent_at parts.bus.agents h).clock < MAX
+pub clock_small : (parts : Parts) (h : ℕ) (from : ModelState) → MayAct parts h from →
+    (agent_at parts.bus.agents h).clock < MAX
 clock_small parts h from may =
     let small = (clocks_up_to from may.reached).harts h in
     let few = few_events from may.reached in
     let same : (agent_at parts.bus.agents h).clock ≡ (hart_of from h).clock =
-    ap (λ agent. agent.clock) (may.is_in.shows.agents h) ∙ ap (λ hart. hart.clock) (freed_here from h (is_there parts from h may)) in
+    ap (λ agent. agent.clock) (may.is_in.shows.agents h)
+    ∙ ap (λ hart. hart.clock) (freed_here from h (is_there parts from h may)) in
     omega (arith, small.of_clock, few, same)
 
-pub seen_small : (parts : Parts) (h : ℕ) (from : ModelState) → MayAct parts h from → (agent_at parts.bus.agents h).seen < MAX
+pub seen_small : (parts : Parts) (h : ℕ) (from : ModelState) → MayAct parts h from →
+    (agent_at parts.bus.agents h).seen < MAX
 seen_small parts h from may =
     let small = (clocks_up_to from may.reached).harts h in
     let few = few_events from may.reached in
     let same : (agent_at parts.bus.agents h).seen ≡ (hart_of from h).seen =
-    ap (λ agent. agent.seen) (may.is_in.shows.agents h) ∙ ap (λ hart. hart.seen) (freed_here from h (is_there parts from h may)) in
+    ap (λ agent. agent.seen) (may.is_in.shows.agents h)
+    ∙ ap (λ hart. hart.seen) (freed_here from h (is_there parts from h may)) in
     omega (arith, small.of_seen, few, same)
 
 -- an attempt that closes as the line is given up
@@ -106,7 +113,12 @@ between parts bus h from may shows =
 agent_then : (from : ModelState) (h : ℕ) (cause : Cause) → armed_of from h ≡ None →
     agent_of (hart_then from h cause) ≡ agent_of (close_attempt (record (hart_of from h) { held_line = None }))
 agent_then from h cause none =
-    ap (λ armed. record (agent_of (close_attempt (record (hart_of from h) { held_line = None }))) { armed = armed_count armed }) (sym none)
+    ap
+    (λ armed.
+    record (agent_of (close_attempt (record (hart_of from h) { held_line = None }))) {
+      armed =
+          armed_count armed;
+    }) (sym none)
 
 has_cleared : (bus : BusState) (h : ℕ) (from between : ModelState) (cause : Cause) (cache : Slotted) →
     IsBetween bus from between h (close_attempt (record (hart_of from h) { held_line = None })) →
@@ -115,7 +127,8 @@ has_cleared bus h from between cause cache is clears = record {
   ways = clears.ways;
   residency = ap (λ c. cleared c) (sym (is.shows.caches h ∙ ap (λ hart. hart.cache) is.here)) ∙ sym clears.residency;
   live =
-      sym (lives_unarmed cache.residency 0 refl ∙ ap has_marks clears.residency ∙ unmarked-cleared (slotted_at bus.copies.caches h).residency);
+      sym (lives_unarmed cache.residency 0 refl ∙ ap has_marks clears.residency
+      ∙ unmarked-cleared (slotted_at bus.copies.caches h).residency);
 }
 
 -- the parts then
@@ -134,14 +147,18 @@ own_then old pool from h cause may lent =
     let was = may.is_in.harts h may.exists in
     let below = is_there old from h may in
     let here = hart_of-with_hart_same from h (hart_then from h cause) below in
-    let part : HasOwn own (record (hart_of from h) { held_line = None }) = subst (HasOwn own) (freed_here from h below) was.part in
+    let part : HasOwn own (record (hart_of from h) { held_line = None }) =
+    subst (HasOwn own) (freed_here from h below) was.part in
     let pc : committed_pc own ≡ (view_of from.committed h).pc = ap (λ view. view.pc) was.view in
     record {
       part = subst (HasOwn (rolled_back_own cause own)) (sym here)
-          (subst (λ p. HasOwn (rolled_back_own cause own) (rolled_back cause p (record (hart_of from h) { held_line = None }))) pc
+          (subst (λ p. HasOwn (rolled_back_own cause own)
+          (rolled_back cause p (record (hart_of from h) { held_line = None }))) pc
           (rolled_back_is cause own (record (hart_of from h) { held_line = None }) part));
       view = was.view;
-      section = subst (λ live. KeepsSectionOf pool (with_hart from h (hart_then from h cause)) h live (rolled_back_own cause own).section)
+      section =
+          subst (λ live. KeepsSectionOf pool (with_hart from h (hart_then from h cause)) h live
+          (rolled_back_own cause own).section)
           (sym (ap (λ hart. hart.section) here)) tt;
       armed = tt;
       stands = record { unmarked = refl; empty = refl };
@@ -155,8 +172,9 @@ pub record GivesUpHold (old new : Pooled) (before after : OwnState) : Type 0 whe
   pub lent : IsLent new after.section.hold
   pub others : LeavesOthers before.section.hold.owner old new
 
-rolls_stepped : (old : Parts) (pool : Pooled) (bus : BusState) (from : ModelState) (h : ℕ) (cache : Slotted) (cause : Cause) → MayAct old h from →
-    bus.copies ≡ old.bus.copies → h < length bus.copies.caches → KeepsCopies (slotted_at bus.copies.caches h) cache →
+rolls_stepped : (old : Parts) (pool : Pooled) (bus : BusState) (from : ModelState) (h : ℕ) (cache : Slotted)
+    (cause : Cause) → MayAct old h from → bus.copies ≡ old.bus.copies → h < length bus.copies.caches →
+    KeepsCopies (slotted_at bus.copies.caches h) cache →
     GivesUpHold old.pool pool (own_at old.harts h) (rolled_back_own cause (own_at old.harts h)) →
     Shows (returned bus h cache) (with_hart from h (hart_then from h cause)) →
     HasStepped old (parts_then old pool bus h cache cause) h (with_hart from h (hart_then from h cause))
@@ -171,12 +189,15 @@ rolls_stepped old pool bus from h cache cause may copies inside keeps gives show
       shows = shows;
       told =
           told_left old.pool pool (returned bus h cache) _
-          (λ owner less. leaves_owner _ owner old.pool pool gives.others (λ same. absurd (omega (arith, same, less, (may.is_in.harts h may.exists).owner))))
+          (λ owner less. leaves_owner _ owner old.pool pool gives.others
+          (λ same. absurd (omega (arith, same, less, (may.is_in.harts h may.exists).owner))))
           (told_same old.pool bus h cache _ (told_copies old.pool old.bus bus _ copies may.is_in.told) inside keeps);
       beside = λ owner apart other.
           leaves_owner _ owner old.pool pool gives.others (λ same. other (same ∙ (may.is_in.harts h may.exists).owner));
       each = length-set old.harts h own;
-      own = subst (IsOfHart pool (with_hart from h (hart_then from h cause)) h) (sym (get_or-set_same old.harts h own none may.exists))
+      own =
+          subst (IsOfHart pool (with_hart from h (hart_then from h cause)) h)
+          (sym (get_or-set_same old.harts h own none may.exists))
           (own_then old pool from h cause may gives.lent);
       others = λ g other exists. subst (λ o. IsSeenAs (own_at old.harts g) o (view_of from.committed g))
           (sym (get_or-set_other old.harts h g own none other))
@@ -188,7 +209,8 @@ inside_bus : (parts : Parts) (bus : BusState) (h : ℕ) (from between : ModelSta
 inside_bus parts bus h from between hart may is count =
     subst (λ n. h < n) (sym (is.shows.cache_each ∙ count)) (is_there parts from h may)
 
-count_between : (from : ModelState) (h : ℕ) (hart : Hart) → length (with_hart (freed from h) h hart).harts ≡ length from.harts
+count_between : (from : ModelState) (h : ℕ) (hart : Hart) →
+    length (with_hart (freed from h) h hart).harts ≡ length from.harts
 count_between from h hart = length-set (freed from h).harts h hart ∙ length-set from.harts h _
 
 -- the bus has the hart's cache, and is ready again
@@ -197,21 +219,25 @@ pub has_cache : (parts : Parts) (bus : BusState) (h : ℕ) (from : ModelState) �
 has_cache parts bus h from may shows =
     inside_bus parts bus h from _ _ may (between parts bus h from may shows) (count_between from h _)
 
-pub rolled_ready : (parts : Parts) (bus : BusState) (h : ℕ) (from : ModelState) (cache : Slotted) → MayAct parts h from → IsReady bus →
-    Shows bus (with_hart (freed from h) h (close_attempt (hart_of (freed from h) h))) → IsClearedThere (slotted_at bus.copies.caches h) cache →
-    IsReady (returned bus h cache)
+pub rolled_ready : (parts : Parts) (bus : BusState) (h : ℕ) (from : ModelState) (cache : Slotted) →
+    MayAct parts h from → IsReady bus →
+    Shows bus (with_hart (freed from h) h (close_attempt (hart_of (freed from h) h))) →
+    IsClearedThere (slotted_at bus.copies.caches h) cache → IsReady (returned bus h cache)
 rolled_ready parts bus h from cache may ready shows clears =
     let is = between parts bus h from may shows in
     let inside = has_cache parts bus h from may shows in
-    let formed = well_formed-cleared (slotted_at bus.copies.caches h).ways (slotted_at bus.copies.caches h).residency (ready.well_formed h inside) in
+    let formed =
+    well_formed-cleared (slotted_at bus.copies.caches h).ways (slotted_at bus.copies.caches h).residency
+    (ready.well_formed h inside) in
     ready_between bus from _ h cache _ inside ready is refl refl may.free
     (subst (λ ways. IsWellFormed ways cache.residency) (sym clears.ways)
     (subst (IsWellFormed (slotted_at bus.copies.caches h).ways) (sym clears.residency) formed))
     (λ plain. ap has_marks clears.residency ∙ unmarked-cleared (slotted_at bus.copies.caches h).residency)
 
-pub rolled_in : (old : Parts) (pool : Pooled) (bus : BusState) (hart : HartId) (from : ModelState) (section : Section) (cache : Slotted) (cause : Cause) →
-    FollowsRule old hart.number from section (RollsBack cause) →
-    Shows bus (with_hart (freed from hart.number) hart.number (close_attempt (hart_of (freed from hart.number) hart.number))) →
+pub rolled_in : (old : Parts) (pool : Pooled) (bus : BusState) (hart : HartId) (from : ModelState) (section : Section)
+    (cache : Slotted) (cause : Cause) → FollowsRule old hart.number from section (RollsBack cause) →
+    Shows bus
+    (with_hart (freed from hart.number) hart.number (close_attempt (hart_of (freed from hart.number) hart.number))) →
     bus.copies ≡ old.bus.copies → IsClearedThere (slotted_at bus.copies.caches hart.number) cache →
     GivesUpHold old.pool pool (own_at old.harts hart.number) (rolled_back_own cause (own_at old.harts hart.number)) →
     IsInState (parts_then old pool bus hart.number cache cause) (section_turn from hart.number section).state
@@ -226,4 +252,5 @@ rolled_in old pool bus hart from section cache cause follows shows copies clears
     after_step old (parts_then old pool bus h cache cause) hart from section follows.inside
     (subst (λ t. StaysInPlace from.committed t.state.committed) (sym turn) (stays_in_place from.committed))
     (subst (λ t. HasStepped old (parts_then old pool bus h cache cause) h t.state) (sym turn)
-    (rolls_stepped old pool bus from h cache cause may copies (has_cache old bus h from may shows) clears.keeps gives shown))
+    (rolls_stepped old pool bus from h cache cause may copies (has_cache old bus h from may shows)
+    clears.keeps gives shown))

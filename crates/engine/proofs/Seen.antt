@@ -1,5 +1,6 @@
 -- what is seen of the parts is what the state shows, and the parts before the first event
-use Rattle.std.proofs.Common.{◌≡◌, ◌∙◌, ℕ, ◌+◌, ◌-◌, ◌<◌, List, [], length, map, Option, None, Some, refl, ap, sym, subst, zero-add}
+use Rattle.std.proofs.Common.{◌≡◌, ◌∙◌, ℕ, ◌+◌, ◌-◌, ◌<◌, List, [], length, map, Option, None, Some, refl, ap, sym}
+use Rattle.std.proofs.Common.{subst, zero-add}
 use Rattle.std.specs.List.{range_with_len}
 use Rattle.std.specs.Prelude.{option_map}
 use Rattle.std.proofs.lemmas.List.{ext_get_or, get_or-map, get_or-replicate, length-map, length-replicate}
@@ -10,7 +11,8 @@ use Rattle.el_model.specs.Next.{all_stopped, is_over, shown_of, view_in, view_ou
 use Rattle.el_model.specs.State.{ModelState, Section, armed_of, begin, hart_of, new_hart, section_of}
 use Rattle.elf_image.specs.Program.{Program}
 use Rattle.engine.specs.Acting.{next_action}
-use Rattle.engine.specs.Parts.{IsInState, IsOfHart, KeepsReserved, KeepsSectionOf, Parts, StandsAs, hold_owner, own_at, room_in}
+use Rattle.engine.specs.Parts.{IsInState, IsOfHart, KeepsReserved, KeepsSectionOf, Parts, StandsAs, hold_owner, own_at}
+use Rattle.engine.specs.Parts.{room_in}
 use Rattle.engine.specs.Views.{committed_views, first_own}
 use Rattle.hart_state.proofs.Laws.Harts.{new_is}
 use Rattle.hart_state.specs.Own.{HasOwn, OwnState, new_own}
@@ -27,7 +29,8 @@ use Rattle.snoop.specs.Shows.{Shows, Tells}
 use Rattle.write_hold.specs.Slotted.{IsLent}
 
 -- the committed views are the state's
-pub views_are : (parts : Parts) (state : ModelState) → IsInState parts state → committed_views parts.harts ≡ state.committed.harts
+pub views_are : (parts : Parts) (state : ModelState) → IsInState parts state →
+    committed_views parts.harts ≡ state.committed.harts
 views_are parts state is =
     let view : OwnState → HartView = λ own. committed_of own.section.marks in
     let same = length-map parts.harts view in
@@ -36,15 +39,16 @@ views_are parts state is =
     let inside : h < length parts.harts = subst (λ n. h < n) same below in
     get_or-map view parts.harts h (new_own no_hart 0 0) no_hart inside ∙ (is.harts h inside).view)
 
-pub over_is : (parts : Parts) (state : ModelState) → IsInState parts state → all_stopped (committed_views parts.harts) ≡ is_over state
+pub over_is : (parts : Parts) (state : ModelState) → IsInState parts state →
+    all_stopped (committed_views parts.harts) ≡ is_over state
 unfolding is_over
 over_is parts state is = ap all_stopped (views_are parts state is)
 
 -- a hart sees what its section shows, live or armed, and else its committed view
 sees_outside : (state : ModelState) (h : ℕ) (reserved : Option Reserved) (kept : SectionState) →
-    option_map (λ r. r.armed) reserved ≡ armed_of state h → KeepsReserved state.committed h reserved kept.marks.present →
-    StandsAs kept.marks kept.hold None reserved → committed_of kept.marks ≡ view_of state.committed h →
-    kept.marks.present ≡ view_outside state h (armed_of state h)
+    option_map (λ r. r.armed) reserved ≡ armed_of state h →
+    KeepsReserved state.committed h reserved kept.marks.present → StandsAs kept.marks kept.hold None reserved →
+    committed_of kept.marks ≡ view_of state.committed h → kept.marks.present ≡ view_outside state h (armed_of state h)
 sees_outside state h None kept is keeps stands view =
     sym (ap (λ mark. checkpoint_or mark kept.marks.present) stands.unmarked) ∙ view ∙ ap (view_outside state h) is
 sees_outside state h (Some reserved) kept is keeps stands view = keeps.view ∙ ap (view_outside state h) is
@@ -76,12 +80,13 @@ pub acts_in_place : (parts : Parts) (state : ModelState) (action : Action) → I
 acts_in_place parts state action is placed =
     let InSpan : Span → Type 0 = λ span. IsInPlace span (room_of state.committed) action in
     let InRoom : ℕ → Type 0 = λ room. IsInPlace parts.span room action in
-    let room : room_in parts ≡ room_of state.committed = ap (λ (output : List ℕ). output_limit - length output) is.output in
+    let room : room_in parts ≡ room_of state.committed =
+    ap (λ (output : List ℕ). output_limit - length output) is.output in
     subst InSpan is.span (subst InRoom room placed)
 
 -- nothing is held where no section is live
-nothing_held : (live : Option Section) (reserved : Option Reserved) (kept : SectionState) → StandsAs kept.marks kept.hold live reserved →
-    live ≡ None → kept.hold.entries ≡ []
+nothing_held : (live : Option Section) (reserved : Option Reserved) (kept : SectionState) →
+    StandsAs kept.marks kept.hold live reserved → live ≡ None → kept.hold.entries ≡ []
 nothing_held None None kept stands none = stands.empty
 nothing_held None (Some reserved) kept stands none = stands.empty
 nothing_held (Some section) reserved kept stands none = absurd cc
@@ -93,7 +98,8 @@ holds_nothing parts state h is below none =
 
 -- a hart before its first event
 first_hart : (program : Program) (config : Config) (pool : Pooled) (h : ℕ) → h < program.harts →
-    IsLent pool (first_own program config h).section.hold → IsOfHart pool (begin program config) h (first_own program config h)
+    IsLent pool (first_own program config h).section.hold →
+    IsOfHart pool (begin program config) h (first_own program config h)
 unfolding begin start
 first_hart program config pool h below lent =
     let view : view_of (start program) h ≡ first_view program h =
@@ -101,7 +107,9 @@ first_hart program config pool h below lent =
     let hart : hart_of (begin program config) h ≡ new_hart config.sets =
     get_or-replicate program.harts h (new_hart config.sets) (new_hart 0) below in
     record {
-      part = subst (λ k. HasOwn (first_own program config h) k) (sym hart) (new_is (first_view program h) config.lines (hold_owner h) config.sets);
+      part =
+          subst (λ k. HasOwn (first_own program config h) k) (sym hart)
+          (new_is (first_view program h) config.lines (hold_owner h) config.sets);
       view = sym view;
       section =
           subst (λ live. KeepsSectionOf pool (begin program config) h live (first_own program config h).section)
@@ -115,11 +123,11 @@ first_hart program config pool h below lent =
 
 -- the parts are in the first state
 pub first_in : (program : Program) (config : Config) (parts : Parts) → parts.config ≡ config →
-    parts.span ≡ record { base = program.base; end = program.base + length program.bytes } → Shows parts.bus (begin program config) →
-    Tells parts.pool parts.bus (bytes_at_first program) →
+    parts.span ≡ record { base = program.base; end = program.base + length program.bytes } →
+    Shows parts.bus (begin program config) → Tells parts.pool parts.bus (bytes_at_first program) →
     ((h : ℕ) → h < program.harts → IsLent parts.pool (first_own program config h).section.hold) →
-    parts.harts ≡ map (first_own program config) (range_with_len 0 program.harts) → parts.code ≡ program.code → parts.output ≡ [] →
-    IsInState parts (begin program config)
+    parts.harts ≡ map (first_own program config) (range_with_len 0 program.harts) → parts.code ≡ program.code →
+    parts.output ≡ [] → IsInState parts (begin program config)
 unfolding begin start
 first_in program config parts config_is span_is shows told lent harts_are code_is none =
     let count : length parts.harts ≡ program.harts =
@@ -135,7 +143,8 @@ first_in program config parts config_is span_is shows told lent harts_are code_i
           let inside : h < program.harts = subst (λ n. h < n) count below in
           subst (IsOfHart parts.pool (begin program config) h)
           (sym (ap (λ harts. own_at harts h) harts_are
-          ∙ get_or-map-range_with_len (first_own program config) 0 program.harts h h (new_own no_hart 0 0) inside (zero-add h)))
+          ∙ get_or-map-range_with_len (first_own program config) 0 program.harts h h (new_own no_hart 0 0)
+          inside (zero-add h)))
           (first_hart program config parts.pool h inside (lent h inside));
       code = code_is;
       output = none;

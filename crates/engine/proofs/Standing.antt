@@ -21,21 +21,25 @@ pub record IsSameHart (old new : Hart) : Type 0 where
   pub fallback : new.fallback ≡ old.fallback
   pub tries : new.tries ≡ old.tries
 
-keeps_section : (pool : Pooled) (state new : ModelState) (h : ℕ) (section : Section) (kept : SectionState) → new.committed ≡ state.committed →
-    cache_of new h ≡ cache_of state h → KeepsSection pool state h section kept → KeepsSection pool new h section kept
+keeps_section : (pool : Pooled) (state new : ModelState) (h : ℕ) (section : Section) (kept : SectionState) →
+    new.committed ≡ state.committed → cache_of new h ≡ cache_of state h → KeepsSection pool state h section kept →
+    KeepsSection pool new h section kept
 keeps_section pool state new h section kept committed cache keeps = record {
-  run = subst (λ flat. KeepsRun flat h section kept.marks.present (hold_in pool kept).entries) (sym committed) keeps.run;
+  run =
+      subst (λ flat. KeepsRun flat h section kept.marks.present (hold_in pool kept).entries) (sym committed) keeps.run;
   marked = subst (λ c. HoldsMarked c (hold_in pool kept).entries) (sym cache) keeps.marked;
 }
 
-keeps_section_of : (pool : Pooled) (state new : ModelState) (h : ℕ) (live : Option Section) (kept : SectionState) → new.committed ≡ state.committed →
-    cache_of new h ≡ cache_of state h → KeepsSectionOf pool state h live kept → KeepsSectionOf pool new h live kept
+keeps_section_of : (pool : Pooled) (state new : ModelState) (h : ℕ) (live : Option Section) (kept : SectionState) →
+    new.committed ≡ state.committed → cache_of new h ≡ cache_of state h → KeepsSectionOf pool state h live kept →
+    KeepsSectionOf pool new h live kept
 keeps_section_of pool state new h None kept committed cache keeps = tt
-keeps_section_of pool state new h (Some section) kept committed cache keeps = keeps_section pool state new h section kept committed cache keeps
+keeps_section_of pool state new h (Some section) kept committed cache keeps =
+    keeps_section pool state new h section kept committed cache keeps
 
 -- what a hart keeps is still its own
-pub same_own : (pool : Pooled) (state new : ModelState) (h : ℕ) (own : OwnState) → Keeps state new → IsSameHart (hart_of state h) (hart_of new h) →
-    IsOfHart pool state h own → IsOfHart pool new h own
+pub same_own : (pool : Pooled) (state new : ModelState) (h : ℕ) (own : OwnState) → Keeps state new →
+    IsSameHart (hart_of state h) (hart_of new h) → IsOfHart pool state h own → IsOfHart pool new h own
 same_own pool state new h own keeps same is = record {
   part = record {
     section = is.part.section ∙ sym same.section;
@@ -49,7 +53,8 @@ same_own pool state new h own keeps same is = record {
   section =
       subst (λ live. KeepsSectionOf pool new h live own.section) (sym same.section)
       (keeps_section_of pool state new h (section_of state h) own.section keeps.committed same.cache is.section);
-  armed = subst (λ flat. KeepsReserved flat h own.section.armed own.section.marks.present) (sym keeps.committed) is.armed;
+  armed =
+      subst (λ flat. KeepsReserved flat h own.section.armed own.section.marks.present) (sym keeps.committed) is.armed;
   stands = is.stands;
   limit = is.limit ∙ ap (λ config. config.lines) (sym keeps.config);
   owner = is.owner;

@@ -1,5 +1,6 @@
 -- what holds where a hart acts outside of a section
-use Rattle.std.proofs.Common.{◌≡◌, ◌∙◌, ℕ, ◌-◌, ◌<◌, ◌≤◌, Bool, true, false, length, Option, Some, None, is_some, refl, ap, sym, subst, arith}
+use Rattle.std.proofs.Common.{◌≡◌, ◌∙◌, ℕ, ◌-◌, ◌<◌, ◌≤◌, Bool, true, false, length, Option, Some, None, is_some, refl}
+use Rattle.std.proofs.Common.{ap, sym, subst, arith}
 use Rattle.std.specs.Prelude.{◌&&◌, ◌==◌}
 use Rattle.residency.specs.Cache.{has_marks}
 use Rattle.residency.proofs.Laws.Rooms.{room_without_marks}
@@ -34,7 +35,8 @@ use Rattle.snoop.specs.Shows.{LiesIn, has_room_in, lent_copies}
 use Rattle.step_rules.specs.Rules.{IsOnLine}
 
 -- a cache has no bits where its hart has neither section
-none_lives : (marks : Bool) (armed : Option Armed) → armed ≡ None → (marks && (armed_count armed == 0)) ≡ false → marks ≡ false
+none_lives : (marks : Bool) (armed : Option Armed) → armed ≡ None →
+    (marks && (armed_count armed == 0)) ≡ false → marks ≡ false
 none_lives marks None none is = by marks is
   where
     by : (marks : Bool) → (marks && true) ≡ false → marks ≡ false
@@ -43,7 +45,8 @@ none_lives marks None none is = by marks is
 none_lives marks (Some armed) none is = absurd (cc)
 
 -- what holds of the line of each touch holds of a touched line
-of_touch : (P : ℕ → Type 0) (touch : Option Touch) (line : ℕ) → ((t : Touch) → touch ≡ Some t → P t.line) → TouchesLine touch line → P line
+of_touch : (P : ℕ → Type 0) (touch : Option Touch) (line : ℕ) → ((t : Touch) → touch ≡ Some t → P t.line) →
+    TouchesLine touch line → P line
 of_touch P None line there touches = absurd touches
 of_touch P (Some touch) line there touches = subst P touches (there touch refl)
 
@@ -103,9 +106,12 @@ module _ (parts : Parts) (h : ℕ) (state : ModelState) (acts : ActsOutside part
   action_is =
       let is = acts.may.is_in in
       ap (λ view. action_at (code_word parts.code view.pc) view parts.span (room_in parts)) view_is
-      ∙ ap (λ code. action_at (code_word code (view_of state.committed h).pc) (view_of state.committed h) parts.span (room_in parts)) is.code
-      ∙ ap (λ span. action_at (code_word state.committed.code (view_of state.committed h).pc) (view_of state.committed h) span (room_in parts)) is.span
-      ∙ ap (λ output. action_at (code_word state.committed.code (view_of state.committed h).pc) (view_of state.committed h)
+      ∙ ap (λ code. action_at (code_word code (view_of state.committed h).pc) (view_of state.committed h) parts.span
+      (room_in parts)) is.code
+      ∙ ap (λ span. action_at (code_word state.committed.code (view_of state.committed h).pc)
+      (view_of state.committed h) span (room_in parts)) is.span
+      ∙ ap (λ output. action_at (code_word state.committed.code (view_of state.committed h).pc)
+      (view_of state.committed h)
       (span_of state.committed) (output_limit - length output)) is.output
 
   pub on_line : IsOnLine state.committed
@@ -145,15 +151,17 @@ module _ (parts : Parts) (h : ℕ) (state : ModelState) (acts : ActsOutside part
       IsInPlace (span_of state.committed) (room_of state.committed) action
   in_memory action place =
       subst (λ span. IsInPlace span (room_of state.committed) action) acts.may.is_in.span
-      (subst (λ room. IsInPlace parts.span room action) (ap (λ output. output_limit - length output) acts.may.is_in.output) place)
+      (subst (λ room. IsInPlace parts.span room action)
+      (ap (λ output. output_limit - length output) acts.may.is_in.output) place)
 
   -- what an action touches is there
-  pub line_there : (action : Action) (line : ℕ) → IsInPlace parts.span (room_in parts) action → TouchesLine (touch_of (footprint action)) line →
-      LiesIn parts.bus.copies line
+  pub line_there : (action : Action) (line : ℕ) → IsInPlace parts.span (room_in parts) action →
+      TouchesLine (touch_of (footprint action)) line → LiesIn parts.bus.copies line
   line_there action line place touches =
       of_touch (LiesIn parts.bus.copies) (touch_of (footprint action)) line
       (λ touch found.
-      touched_there (lent_copies parts.pool parts.bus.copies) state.committed (room_of state.committed) action touch tells_there.placed
+      touched_there (lent_copies parts.pool parts.bus.copies) state.committed (room_of state.committed) action touch
+      tells_there.placed
       (in_memory action place) found)
       touches
 

@@ -24,7 +24,8 @@ use Rattle.el_model.specs.Armed.{armed_turn}
 use Rattle.el_model.specs.InSection.{section_turn}
 use Rattle.el_model.specs.Next.{going_turn, next, outside_turn, stalled, status_turn, step_turn}
 use Rattle.el_model.specs.Plain.{armed_count}
-use Rattle.el_model.specs.State.{Armed, Hart, ModelState, Section, Turn, armed_of, has_request, hart_of, ordered_of, raised_of, section_of, with_hart}
+use Rattle.el_model.specs.State.{Armed, Hart, ModelState, Section, Turn, armed_of, has_request, hart_of, ordered_of}
+use Rattle.el_model.specs.State.{raised_of, section_of, with_hart}
 use Rattle.engine.proofs.Framed.{hold_beside, own_left}
 use Rattle.engine.proofs.Misses.{freed_each, freed_here, freed_then, is_there}
 use Rattle.engine.proofs.LentThere.{few_harts}
@@ -56,8 +57,8 @@ is_step : (state : ModelState) (hart : HartId) → next state (step_of hart) ≡
 unfolding next
 is_step state hart = refl
 
-goes_on : (state : ModelState) (h : ℕ) (section : Section) → status_of state.committed h ≡ Running → has_request state h ≡ false →
-    section_of state h ≡ Some section → step_turn state h ≡ section_turn state h section
+goes_on : (state : ModelState) (h : ℕ) (section : Section) → status_of state.committed h ≡ Running →
+    has_request state h ≡ false → section_of state h ≡ Some section → step_turn state h ≡ section_turn state h section
 unfolding step_turn
 goes_on state h section running free live =
     ap (status_turn state h) running
@@ -67,8 +68,9 @@ goes_on state h section running free live =
 pub runs : (parts : Parts) (h : ℕ) (from : ModelState) → MayAct parts h from → status_of from.committed h ≡ Running
 runs parts h from may = ap (λ view. view.status) (sym (may.is_in.harts h may.exists).view) ∙ may.running
 
-armed_goes_on : (state : ModelState) (h : ℕ) (armed : Armed) → status_of state.committed h ≡ Running → has_request state h ≡ false →
-    section_of state h ≡ None → armed_of state h ≡ Some armed → step_turn state h ≡ armed_turn state h armed
+armed_goes_on : (state : ModelState) (h : ℕ) (armed : Armed) → status_of state.committed h ≡ Running →
+    has_request state h ≡ false → section_of state h ≡ None → armed_of state h ≡ Some armed →
+    step_turn state h ≡ armed_turn state h armed
 unfolding step_turn
 armed_goes_on state h armed running free none is =
     ap (status_turn state h) running
@@ -76,17 +78,19 @@ armed_goes_on state h armed running free none is =
     ∙ ap (going_turn state h) none ∙ ap (outside_turn state h) is
 
 -- the event of a hart that acts in an armed section is its turn
-pub armed_turn_is : (parts : Parts) (hart : HartId) (from : ModelState) (armed : Armed) → ActsArmed parts hart.number from armed →
-    next from (step_of hart) ≡ armed_turn from hart.number armed
+pub armed_turn_is : (parts : Parts) (hart : HartId) (from : ModelState) (armed : Armed) →
+    ActsArmed parts hart.number from armed → next from (step_of hart) ≡ armed_turn from hart.number armed
 armed_turn_is parts hart from armed acts =
     is_step from hart
-    ∙ armed_goes_on from hart.number armed (runs parts hart.number from acts.may) acts.may.free acts.no_section acts.armed_is
+    ∙ armed_goes_on from hart.number armed (runs parts hart.number from acts.may) acts.may.free
+    acts.no_section acts.armed_is
 
 -- the event of a hart that acts in a section is the turn of its section
-pub turn_is : (parts : Parts) (hart : HartId) (from : ModelState) (section : Section) → ActsInside parts hart.number from section →
-    next from (step_of hart) ≡ section_turn from hart.number section
+pub turn_is : (parts : Parts) (hart : HartId) (from : ModelState) (section : Section) →
+    ActsInside parts hart.number from section → next from (step_of hart) ≡ section_turn from hart.number section
 turn_is parts hart from section inside =
-    is_step from hart ∙ goes_on from hart.number section (runs parts hart.number from inside.may) inside.may.free inside.live
+    is_step from hart ∙ goes_on from hart.number section (runs parts hart.number from inside.may)
+    inside.may.free inside.live
 
 -- memory lies where it did, with the same code, the same number of harts and the same output
 pub record StaysInPlace (old new : FlatState) : Type 0 where
@@ -99,8 +103,8 @@ pub record StaysInPlace (old new : FlatState) : Type 0 where
 pub stays_in_place : (flat : FlatState) → StaysInPlace flat flat
 stays_in_place flat = record { base = refl; size = refl; code = refl; harts = refl; output = refl }
 
--- what the parts of a hart that has stepped are in a state: the bus shows it, with its bytes, the hart keeps what is its own, and the
--- others what they kept, but for their committed views, and their slots of the pool
+-- what the parts of a hart that has stepped are in a state: the bus shows it, with its bytes, the hart keeps what is
+-- its own, and the others what they kept, but for their committed views, and their slots of the pool
 pub record HasStepped (old new : Parts) (h : ℕ) (state : ModelState) : Type 0 where
   pub config : new.config ≡ old.config
   pub span : new.span ≡ old.span
@@ -139,7 +143,8 @@ stepped_in old new hart from may stays stepped =
             let exists : g < length old.harts = subst (λ n. g < n) stepped.each below in
             own_left old.pool new.pool state g (own_at new.harts g)
             (hold_beside hart.number g old.pool new.pool stepped.beside (few_harts old hart.number from may) other)
-            (others_stay old from (step_of hart) g (own_at new.harts g) may.reached may.is_in refl other exists (stepped.others g other exists))
+            (others_stay old from (step_of hart) g (own_at new.harts g) may.reached may.is_in refl other exists
+            (stepped.others g other exists))
       ];
       code = stepped.code ∙ may.is_in.code ∙ sym stays.code;
       output = stepped.output ∙ may.is_in.output ∙ sym stays.output;
@@ -147,18 +152,21 @@ stepped_in old new hart from may stays stepped =
 
 -- so they are in that after a turn that the event is
 pub after_turn : (old new : Parts) (hart : HartId) (from : ModelState) (turn : Turn) → MayAct old hart.number from →
-    next from (step_of hart) ≡ turn → StaysInPlace from.committed turn.state.committed → HasStepped old new hart.number turn.state →
-    IsInState new turn.state
+    next from (step_of hart) ≡ turn → StaysInPlace from.committed turn.state.committed →
+    HasStepped old new hart.number turn.state → IsInState new turn.state
 after_turn old new hart from turn may is stays stepped =
     subst (λ t. IsInState new t.state) is
     (stepped_in old new hart from may (subst (λ t. StaysInPlace from.committed t.state.committed) (sym is) stays)
     (subst (λ t. HasStepped old new hart.number t.state) (sym is) stepped))
 
-pub after_step : (old new : Parts) (hart : HartId) (from : ModelState) (section : Section) → ActsInside old hart.number from section →
+pub after_step : (old new : Parts) (hart : HartId) (from : ModelState) (section : Section) →
+    ActsInside old hart.number from section →
     StaysInPlace from.committed (section_turn from hart.number section).state.committed →
-    HasStepped old new hart.number (section_turn from hart.number section).state → IsInState new (section_turn from hart.number section).state
+    HasStepped old new hart.number (section_turn from hart.number section).state →
+    IsInState new (section_turn from hart.number section).state
 after_step old new hart from section inside stays stepped =
-    after_turn old new hart from (section_turn from hart.number section) inside.may (turn_is old hart from section inside) stays stepped
+    after_turn old new hart from (section_turn from hart.number section) inside.may
+    (turn_is old hart from section inside) stays stepped
 
 -- a hart that becomes another twice
 pub set_twice : (state : ModelState) (h : ℕ) (first second : Hart) →
@@ -168,14 +176,16 @@ set_twice state h first second = ap (λ harts. record state { harts = harts }) (
 -- what one hart keeps has changed, and then the bus has, in parts whose bus has
 pub put_in : (old mid : Parts) (between bus : BusState) (h i : ℕ) (own now : OwnState) →
     mid ≡ record old { bus = between } → i ≡ h → own ≡ now →
-    record mid { bus = bus; harts = slice_set mid.harts i own } ≡ record old { bus = bus; harts = slice_set old.harts h now }
+    record mid { bus = bus; harts = slice_set mid.harts i own }
+    ≡ record old { bus = bus; harts = slice_set old.harts h now }
 put_in old mid between bus h i own now same at is =
     ap {A = Parts} (λ p. record p { bus = bus; harts = slice_set p.harts i own }) same
     ∙ ap (λ n. record old { bus = bus; harts = slice_set old.harts n own }) at
     ∙ ap (λ o. record old { bus = bus; harts = slice_set old.harts h o }) is
 
-pub set_in : (old mid : Parts) (bus : BusState) (h i : ℕ) (own now : OwnState) → mid ≡ record old { bus = bus } → i ≡ h → own ≡ now →
-    record mid { harts = slice_set mid.harts i own } ≡ record old { bus = bus; harts = slice_set old.harts h now }
+pub set_in : (old mid : Parts) (bus : BusState) (h i : ℕ) (own now : OwnState) → mid ≡ record old { bus = bus } →
+    i ≡ h → own ≡ now → record mid { harts = slice_set mid.harts i own }
+    ≡ record old { bus = bus; harts = slice_set old.harts h now }
 set_in old mid bus h i own now same at is =
     ap {A = BusState} (λ b. record mid { bus = b; harts = slice_set mid.harts i own }) (ap (λ p. p.bus) same)
     ∙ put_in old mid bus bus h i own now same at is
@@ -202,8 +212,9 @@ freed_between parts h from may =
     }
 
 -- the hart has become another, and the bus shows it
-became : (old bus : BusState) (from between : ModelState) (h : ℕ) (hart now : Hart) → IsBetween old from between h hart →
-    Shows bus (with_hart from h now) → IsBetween bus from (with_hart from h now) h now
+became : (old bus : BusState) (from between : ModelState) (h : ℕ) (hart now : Hart) →
+    IsBetween old from between h hart → Shows bus (with_hart from h now) →
+    IsBetween bus from (with_hart from h now) h now
 became old bus from between h hart now is shows =
     let count : length (with_hart from h now).harts ≡ length between.harts =
     sym (ap (λ s. length s.harts) (is.becomes now)) ∙ length-set between.harts h now in
@@ -222,8 +233,9 @@ pub record IsCacheOf (bus : BusState) (h : ℕ) (cache : Slotted) (now : Hart) :
   pub residency : now.cache ≡ cache.residency
   pub live : is_some now.section ≡ lives cache.residency (armed_count now.armed)
 
-pub shows_between : (bus : BusState) (from between : ModelState) (h : ℕ) (cache : Slotted) (hart now : Hart) → h < length bus.copies.caches →
-    IsBetween bus from between h hart → agent_of now ≡ agent_of hart → is_some now.armed ≡ is_some hart.armed → IsCacheOf bus h cache now →
+pub shows_between : (bus : BusState) (from between : ModelState) (h : ℕ) (cache : Slotted) (hart now : Hart) →
+    h < length bus.copies.caches → IsBetween bus from between h hart → agent_of now ≡ agent_of hart →
+    is_some now.armed ≡ is_some hart.armed → IsCacheOf bus h cache now →
     Shows (returned bus h cache) (with_hart from h now)
 shows_between bus from between h cache hart now inside is agent armed same =
     subst (Shows (returned bus h cache)) (is.becomes now)
@@ -238,8 +250,8 @@ shows_between bus from between h cache hart now inside is agent armed same =
     }))
 
 -- what is committed has changed, and memory is as it was
-pub shows_committed : (bus : BusState) (state : ModelState) (committed : FlatState) → KeepsBytes state.committed committed → Shows bus state →
-    Shows bus (record state { committed = committed })
+pub shows_committed : (bus : BusState) (state : ModelState) (committed : FlatState) →
+    KeepsBytes state.committed committed → Shows bus state → Shows bus (record state { committed = committed })
 shows_committed bus state committed keeps shows = record {
   mode = shows.mode;
   ways = shows.ways;
@@ -250,26 +262,29 @@ shows_committed bus state committed keeps shows = record {
   live = shows.live;
   arms = shows.arms;
   order = shows.order;
-  memory = record { first = shows.memory.first ∙ sym keeps.base; lines = shows.memory.lines ∙ ap length (sym keeps.bytes) };
+  memory =
+      record { first = shows.memory.first ∙ sym keeps.base; lines = shows.memory.lines ∙ ap length (sym keeps.bytes) };
 }
 
 -- and what was told is told
-pub told_committed : (pool : Pooled) (bus : BusState) (old new : FlatState) → KeepsBytes old new → Tells pool bus (line_of old) →
-    Tells pool bus (line_of new)
+pub told_committed : (pool : Pooled) (bus : BusState) (old new : FlatState) → KeepsBytes old new →
+    Tells pool bus (line_of old) → Tells pool bus (line_of new)
 told_committed pool bus old new keeps told = rw (keeps.base, keeps.bytes) told
 
 -- the same as a state between
-pub returned_between : (bus : BusState) (from between : ModelState) (h : ℕ) (cache : Slotted) (hart now : Hart) → h < length bus.copies.caches →
-    IsBetween bus from between h hart → agent_of now ≡ agent_of hart → is_some now.armed ≡ is_some hart.armed → IsCacheOf bus h cache now →
+pub returned_between : (bus : BusState) (from between : ModelState) (h : ℕ) (cache : Slotted) (hart now : Hart) →
+    h < length bus.copies.caches → IsBetween bus from between h hart → agent_of now ≡ agent_of hart →
+    is_some now.armed ≡ is_some hart.armed → IsCacheOf bus h cache now →
     IsBetween (returned bus h cache) from (with_hart from h now) h now
 returned_between bus from between h cache hart now inside is agent armed same =
-    became bus (returned bus h cache) from between h hart now is (shows_between bus from between h cache hart now inside is agent armed same)
+    became bus (returned bus h cache) from between h hart now is
+    (shows_between bus from between h cache hart now inside is agent armed same)
 
 -- a hart's count was noted at the bus, as the hart has become another
-pub noted_between : (old bus : BusState) (from between : ModelState) (h count : ℕ) (hart now : Hart) → IsBetween old from between h hart →
-    LeavesNoted h count old bus →
-    agent_of now ≡ agent_noted count (agent_of hart) → now.cache ≡ hart.cache → is_some now.armed ≡ not (count == 0) →
-    is_some now.section ≡ lives now.cache count → IsBetween bus from (with_hart from h now) h now
+pub noted_between : (old bus : BusState) (from between : ModelState) (h count : ℕ) (hart now : Hart) →
+    IsBetween old from between h hart → LeavesNoted h count old bus → agent_of now ≡ agent_noted count (agent_of hart) →
+    now.cache ≡ hart.cache → is_some now.armed ≡ not (count == 0) → is_some now.section ≡ lives now.cache count →
+    IsBetween bus from (with_hart from h now) h now
 noted_between old bus from between h count hart now is noted agent cache armed live =
     became old bus from between h hart now is
     (subst (Shows bus) (is.becomes now)
@@ -282,8 +297,9 @@ noted_between old bus from between h count hart now is noted agent cache armed l
     })))
 
 -- a hart that acts waits for nothing, at the bus either
-pub free_between : (bus : BusState) (from between : ModelState) (h : ℕ) (hart : Hart) → IsBetween bus from between h hart →
-    hart.raised ≡ raised_of from h → between.order ≡ from.order → has_request from h ≡ false → HasNoRequest bus h
+pub free_between : (bus : BusState) (from between : ModelState) (h : ℕ) (hart : Hart) →
+    IsBetween bus from between h hart → hart.raised ≡ raised_of from h → between.order ≡ from.order →
+    has_request from h ≡ false → HasNoRequest bus h
 free_between bus from between h hart is raised order free =
     let none = none_from_both (raised_of from h) (ordered_of from h) free in
     record {
@@ -292,10 +308,10 @@ free_between bus from between h hart is raised order free =
     }
 
 -- so the bus is ready with any well-formed cache that in the plain mode has no bit
-pub ready_between : (bus : BusState) (from between : ModelState) (h : ℕ) (cache : Slotted) (hart : Hart) → h < length bus.copies.caches →
-    IsReady bus → IsBetween bus from between h hart → hart.raised ≡ raised_of from h → between.order ≡ from.order → has_request from h ≡ false →
-    IsWellFormed cache.ways cache.residency → (bus.mode ≡ Plain → has_marks cache.residency ≡ false) →
-    IsReady (returned bus h cache)
+pub ready_between : (bus : BusState) (from between : ModelState) (h : ℕ) (cache : Slotted) (hart : Hart) →
+    h < length bus.copies.caches → IsReady bus → IsBetween bus from between h hart → hart.raised ≡ raised_of from h →
+    between.order ≡ from.order → has_request from h ≡ false → IsWellFormed cache.ways cache.residency →
+    (bus.mode ≡ Plain → has_marks cache.residency ≡ false) → IsReady (returned bus h cache)
 ready_between bus from between h cache hart inside ready is raised order free formed unmarked =
     ready_returned bus h cache inside ready
     (unasked_returned bus h cache (free_between bus from between h hart is raised order free) formed unmarked)
@@ -312,11 +328,14 @@ read_not_plain bus h line cache ready is read plain =
     true_false same = absurd (cc)
 
 -- a line got the read bit in the cache of a hart, and became the most recent one, as the hart became another
-pub marked_cache : (bus : BusState) (h line : ℕ) (cache : Slotted) (from between : ModelState) (hart now : Hart) → IsBetween bus from between h hart →
-    IsReadMarked (slotted_at bus.copies.caches h) cache line → now.cache ≡ touched (marked hart.cache line Read) line →
-    is_some now.section ≡ false → 1 ≤ armed_count now.armed → IsCacheOf bus h cache now
+pub marked_cache : (bus : BusState) (h line : ℕ) (cache : Slotted) (from between : ModelState) (hart now : Hart) →
+    IsBetween bus from between h hart → IsReadMarked (slotted_at bus.copies.caches h) cache line →
+    now.cache ≡ touched (marked hart.cache line Read) line → is_some now.section ≡ false → 1 ≤ armed_count now.armed →
+    IsCacheOf bus h cache now
 marked_cache bus h line cache from between hart now is marks same none some =
-    let residency = same ∙ ap (λ c. touched (marked c line Read) line) (sym (is.shows.caches h ∙ ap (λ k. k.cache) is.here)) ∙ sym marks.residency in
+    let residency =
+    same ∙ ap (λ c. touched (marked c line Read) line) (sym (is.shows.caches h ∙ ap (λ k. k.cache) is.here))
+    ∙ sym marks.residency in
     record {
       ways = marks.ways;
       residency = residency;

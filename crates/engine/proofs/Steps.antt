@@ -55,7 +55,8 @@ pub stalled_turn : (state : ModelState) (h : ℕ) → status_of state.committed 
     step_turn state h ≡ stalled state
 unfolding step_turn
 stalled_turn state h running waits =
-    ap (status_turn state h) running ∙ ap (λ test. if test then stalled state else going_turn state h (section_of state h)) waits
+    ap (status_turn state h) running
+    ∙ ap (λ test. if test then stalled state else going_turn state h (section_of state h)) waits
 
 -- what a hart has asked tells whether it waits
 abbrev pub is_asking : Asking → Bool
@@ -63,30 +64,40 @@ is_asking Nothing = false
 is_asking (Raised request) = true
 is_asking (Placed request) = true
 
-pub asking_is : (raised ordered : Option Request) → is_asking (asking raised ordered) ≡ (is_some raised || is_some ordered)
+pub asking_is : (raised ordered : Option Request) →
+    is_asking (asking raised ordered) ≡ (is_some raised || is_some ordered)
 asking_is (Some request) ordered = refl
 asking_is None (Some request) = refl
 asking_is None None = refl
 
 -- one that waits for nothing goes on
 pub going_on : (parts : Parts) (state : ModelState) (h : ℕ) → h < length parts.harts → IsInState parts state →
-    (committed_at parts.harts h).status ≡ Running → has_request state h ≡ false → step_turn state h ≡ going_turn state h (section_of state h)
+    (committed_at parts.harts h).status ≡ Running → has_request state h ≡ false →
+    step_turn state h ≡ going_turn state h (section_of state h)
 unfolding step_turn
 going_on parts state h below is running free =
     ap (status_turn state h) (status_is parts state h below is ∙ running)
     ∙ ap (λ waits. if waits then stalled state else going_turn state h (section_of state h)) free
 
 -- a hart that has given up what it held may act
-pub may_act : (parts : Parts) (bus : BusState) (state : ModelState) (h : ℕ) → IsReached state → IsInState parts state → h < length parts.harts →
-    (committed_at parts.harts h).status ≡ Running → has_request state h ≡ false → IsReady bus → bus.copies ≡ parts.bus.copies →
-    Shows bus (freed state h) →
-    MayAct (record parts { bus = bus }) h state
+pub may_act : (parts : Parts) (bus : BusState) (state : ModelState) (h : ℕ) → IsReached state → IsInState parts state →
+    h < length parts.harts → (committed_at parts.harts h).status ≡ Running → has_request state h ≡ false → IsReady bus →
+    bus.copies ≡ parts.bus.copies → Shows bus (freed state h) → MayAct (record parts { bus = bus }) h state
 may_act parts bus state h reached is exists running free ready copies shows = record {
   reached = reached;
   is_in =
-      with_bus parts bus state (freed state h) is (keeps_with_hart state h (record (hart_of state h) { held_line = None }))
+      with_bus parts bus state (freed state h) is
+      (keeps_with_hart state h (record (hart_of state h) { held_line = None }))
       (same_each state h (record (hart_of state h) { held_line = None })
-      (record { section = refl; armed = refl; last_lr = refl; cache = refl; predictor = refl; fallback = refl; tries = refl })) copies shows;
+      (record {
+        section = refl;
+        armed = refl;
+        last_lr = refl;
+        cache = refl;
+        predictor = refl;
+        fallback = refl;
+        tries = refl;
+      })) copies shows;
   ready = ready;
   exists = exists;
   low = subst (λ span. span.end ≤ end_limit) (sym is.span) (span_small state reached);
@@ -95,13 +106,15 @@ may_act parts bus state h reached is exists running free ready copies shows = re
 }
 
 pub may_act_somewhere : (parts : Parts) (bus : BusState) (h : ℕ) → EngineStands parts → h < length parts.harts →
-    (committed_at parts.harts h).status ≡ Running → ((state : ModelState) → Shows parts.bus state → has_request state h ≡ false) →
-    IsReady bus → bus.copies ≡ parts.bus.copies → ((state : ModelState) → Shows parts.bus state → Shows bus (freed state h)) →
+    (committed_at parts.harts h).status ≡ Running →
+    ((state : ModelState) → Shows parts.bus state → has_request state h ≡ false) → IsReady bus →
+    bus.copies ≡ parts.bus.copies → ((state : ModelState) → Shows parts.bus state → Shows bus (freed state h)) →
     MayActSomewhere (record parts { bus = bus }) h
 may_act_somewhere parts bus h stands exists running free ready copies shows = record {
   from = stands.state;
   may =
-      may_act parts bus stands.state h stands.reached stands.is_in exists running (free stands.state stands.is_in.shows) ready copies
+      may_act parts bus stands.state h stands.reached stands.is_in exists running
+      (free stands.state stands.is_in.shows) ready copies
       (shows stands.state stands.is_in.shows);
 }
 
@@ -112,12 +125,14 @@ asks_nothing parts state h may =
     record {
       none_raised =
           ap (λ agent. agent.raised) (may.is_in.shows.agents h)
-          ∙ with_hart_kept (λ hart. hart.raised) state h (record (hart_of state h) { held_line = None }) refl h ∙ none.0;
+          ∙ with_hart_kept (λ hart. hart.raised) state h (record (hart_of state h) { held_line = None })
+          refl h ∙ none.0;
       none_ordered = ap (λ order. request_of order h) may.is_in.shows.order ∙ none.1;
     }
 
 -- the section that is kept is the state's
-pub section_is : (parts : Parts) (state : ModelState) (h : ℕ) → MayAct parts h state → (own_at parts.harts h).section.live ≡ section_of state h
+pub section_is : (parts : Parts) (state : ModelState) (h : ℕ) → MayAct parts h state →
+    (own_at parts.harts h).section.live ≡ section_of state h
 section_is parts state h may =
     (may.is_in.harts h may.exists).part.section
     ∙ with_hart_kept (λ hart. hart.section) state h (record (hart_of state h) { held_line = None }) refl h
@@ -128,16 +143,26 @@ armed_is parts state h may =
     (may.is_in.harts h may.exists).part.armed
     ∙ with_hart_kept (λ hart. hart.armed) state h (record (hart_of state h) { held_line = None }) refl h
 
-pub acts_outside : (parts : Parts) (state : ModelState) (h : ℕ) → MayAct parts h state → (own_at parts.harts h).section.live ≡ None →
+pub acts_outside : (parts : Parts) (state : ModelState) (h : ℕ) → MayAct parts h state →
+    (own_at parts.harts h).section.live ≡ None →
     option_map (λ reserved. reserved.armed) (own_at parts.harts h).section.armed ≡ None → ActsOutside parts h state
 acts_outside parts state h may none unarmed =
-    record { may = may; no_section = sym (section_is parts state h may) ∙ none; no_armed = sym (armed_is parts state h may) ∙ unarmed }
+    record {
+      may = may;
+      no_section = sym (section_is parts state h may) ∙ none;
+      no_armed = sym (armed_is parts state h may) ∙ unarmed;
+    }
 
 pub acts_armed : (parts : Parts) (state : ModelState) (h : ℕ) (armed : Armed) → MayAct parts h state →
     (own_at parts.harts h).section.live ≡ None →
-    option_map (λ reserved. reserved.armed) (own_at parts.harts h).section.armed ≡ Some armed → ActsArmed parts h state armed
+    option_map (λ reserved. reserved.armed) (own_at parts.harts h).section.armed ≡ Some armed →
+    ActsArmed parts h state armed
 acts_armed parts state h armed may none armed_here =
-    record { may = may; no_section = sym (section_is parts state h may) ∙ none; armed_is = sym (armed_is parts state h may) ∙ armed_here }
+    record {
+      may = may;
+      no_section = sym (section_is parts state h may) ∙ none;
+      armed_is = sym (armed_is parts state h may) ∙ armed_here;
+    }
 
 pub acts_inside : (parts : Parts) (state : ModelState) (h : ℕ) (section : Section) → MayAct parts h state →
     (own_at parts.harts h).section.live ≡ Some section → ActsInside parts h state section

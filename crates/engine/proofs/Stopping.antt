@@ -32,8 +32,9 @@ pub one_runs : (harts : List OwnState) (hart : ℕ) → hart < length harts → 
 one_runs harts hart within running =
     of_harts harts ∙ list_all_at stopped_own harts hart (new_own no_hart 0 0) within (ap has_stopped running)
 
-pub one_more_stopped : (harts : List OwnState) (hart : ℕ) → hart < length harts → all_stopped (committed_views (take hart harts)) ≡ true →
-    (committed_at harts hart).status ≢ Running → all_stopped (committed_views (take (hart + 1) harts)) ≡ true
+pub one_more_stopped : (harts : List OwnState) (hart : ℕ) → hart < length harts →
+    all_stopped (committed_views (take hart harts)) ≡ true → (committed_at harts hart).status ≢ Running →
+    all_stopped (committed_views (take (hart + 1) harts)) ≡ true
 one_more_stopped harts hart within before stopped =
     of_harts (take (hart + 1) harts) ∙ list_all_more stopped_own harts hart (new_own no_hart 0 0) within
     ∙ ap (λ test. test && stopped_own (own_at harts hart)) (sym (of_harts (take hart harts)) ∙ before)

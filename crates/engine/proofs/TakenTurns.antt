@@ -18,7 +18,8 @@ as_well {new = new} takes acts same = record {
 
 -- and so does what goes on from parts with the same main memory
 pub taken_after : {Acts : ModelState → Type 0} {turn : ModelState → Turn} {old mid new : Parts}
-    {result : Outcome} → TakesTurn Acts turn mid new result → mid.bus.copies.lines ≡ old.bus.copies.lines → TakesTurn Acts turn old new result
+    {result : Outcome} → TakesTurn Acts turn mid new result → mid.bus.copies.lines ≡ old.bus.copies.lines →
+    TakesTurn Acts turn old new result
 taken_after takes same = record {
   ready = takes.ready;
   state = takes.state;

@@ -14,7 +14,8 @@ pub record ActsInSection (parts : Parts) (h : ℕ) : Type 0 where
   pub free : HasNoRequest parts.bus h
 
 -- the rule of its step from a state is this one
-pub record FollowsRule (parts : Parts) (h : ℕ) (from : ModelState) (section : Section) (rule : SectionRule) : Type 0 where
+pub record FollowsRule (parts : Parts) (h : ℕ) (from : ModelState) (section : Section)
+    (rule : SectionRule) : Type 0 where
   pub inside : ActsInside parts h from section
   pub rule_is : section_rule from h section ≡ rule
 

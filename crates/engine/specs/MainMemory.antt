@@ -42,8 +42,8 @@ back_by state h outcome kinds.Order = None
 back_by state h outcome kinds.Serve = back_as state h outcome
 back_by state h outcome kinds.Deliver = None
 
--- the line that an event writes back, if it writes one back: a request of the hart is served, its line was not in the hart's cache, and
--- this one left for it, with the letter M or O
+-- the line that an event writes back, if it writes one back: a request of the hart is served, its line was not in the
+-- hart's cache, and this one left for it, with the letter M or O
 unfoldable pub line_written_back : ModelState → Event → Option ℕ
 line_written_back state event = back_by state event.hart.number (next state event).outcome event.kind
 

@@ -28,7 +28,8 @@ IsItsRule parts h rule = (from : ModelState) → ActsOutside parts h from → pl
 -- a hart that arms at the LR of a word finds this value in it, whatever the state
 abbrev pub FindsWord : Parts → ℕ → ℕ → ℕ → Type 0
 FindsWord parts h word old =
-    (from : ModelState) → ActsOutside parts h from → old ≡ loaded (byte_in from.committed.base from.committed.bytes) word 4
+    (from : ModelState) → ActsOutside parts h from →
+    old ≡ loaded (byte_in from.committed.base from.committed.bytes) word 4
 
 -- what an action does over the hart's cache
 abbrev pub execution_in : Parts → ℕ → Action → Execution

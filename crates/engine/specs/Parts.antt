@@ -58,7 +58,8 @@ abbrev pub room_in : Parts → ℕ
 room_in parts = output_limit - length parts.output
 
 -- the view and the stores that are kept of a live section tell its private run, and each stored line has the write bit
-pub record KeepsSection (pool : Pooled) (state : ModelState) (h : ℕ) (section : Section) (kept : SectionState) : Type 0 where
+pub record KeepsSection (pool : Pooled) (state : ModelState) (h : ℕ) (section : Section)
+    (kept : SectionState) : Type 0 where
   pub run : KeepsRun state.committed h section kept.marks.present (hold_in pool kept).entries
   pub marked : HoldsMarked (cache_of state h) (hold_in pool kept).entries
 
@@ -78,8 +79,8 @@ StandsAs marks hold None (Some reserved) = IsArmed marks hold reserved
 StandsAs marks hold (Some section) None = IsLive marks hold section
 StandsAs marks hold (Some section) (Some reserved) = ⊥
 
--- what a hart keeps is that of the definition's hart, with its committed view, and with its live or armed section, if it has one; the
--- pool lends its stores
+-- what a hart keeps is that of the definition's hart, with its committed view, and with its live or armed section, if
+-- it has one; the pool lends its stores
 pub record IsOfHart (pool : Pooled) (state : ModelState) (h : ℕ) (own : OwnState) : Type 0 where
   pub part : HasOwn own (hart_of state h)
   pub view : committed_of own.section.marks ≡ view_of state.committed h
@@ -90,7 +91,8 @@ pub record IsOfHart (pool : Pooled) (state : ModelState) (h : ℕ) (own : OwnSta
   pub owner : own.section.hold.owner ≡ hold_owner h
   pub lent : IsLent pool own.section.hold
 
--- the bus shows the state, with the bytes of memory, each hart keeps what is its own, and each other part is the state's
+-- the bus shows the state, with the bytes of memory, each hart keeps what is its own, and
+-- each other part is the state's
 pub record IsInState (parts : Parts) (state : ModelState) : Type 0 where
   pub config : parts.config ≡ state.config
   pub span : parts.span ≡ span_of state.committed

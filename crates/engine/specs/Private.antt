@@ -11,7 +11,8 @@ use Rattle.line_pool.specs.Pooled.{Pooled}
 use Rattle.residency.specs.Cache.{write_bits_of}
 use Rattle.rv_alu.specs.Footprint.{footprint}
 use Rattle.rv_alu.specs.declared.action.Action.{Action}
-use Rattle.section_ctl.specs.Calls.{HasCommitted, HasContinued, HasReleased, HasRun, IsCoveredIn, MayBuffer, MayContinue, run_of}
+use Rattle.section_ctl.specs.Calls.{HasCommitted, HasContinued, HasReleased, HasRun, IsCoveredIn, MayBuffer}
+use Rattle.section_ctl.specs.Calls.{MayContinue, run_of}
 use Rattle.section_ctl.specs.Lent.{LeavesBeside, LendsBoth}
 use Rattle.section_ctl.specs.State.{SectionState, hold_in}
 use Rattle.section_view.specs.KeptRun.{HoldsMarked}
@@ -51,15 +52,18 @@ pub record HasCovered (old new : Parts) (h : ℕ) (touch : Option Touch) : Type 
 pub record MayRunPrivately (parts : Parts) (h : ℕ) (action : Action) : Type 0 where
   pub there : IsLentThere parts h
   pub either : (is_some (kept_of parts h).live || is_some (kept_of parts h).armed) ≡ true
-  pub buffered : IfSome (kept_of parts h).live (λ section. MayBuffer parts.pool (kept_of parts h) section (cache_in parts h) action)
+  pub buffered : IfSome (kept_of parts h).live
+      (λ section. MayBuffer parts.pool (kept_of parts h) section (cache_in parts h) action)
   pub counted : IfSome (kept_of parts h).live (λ section. section.count + 1 < 4294967296)
   pub quiet : IfSome (kept_of parts h).armed (λ reserved. MayContinue reserved action)
   pub marked : HoldsMarked (cache_in parts h).residency (hold_in parts.pool (kept_of parts h)).entries
   pub few : write_bits_of (cache_in parts h).residency ≤ (kept_of parts h).hold.limit
 
 -- it ran over a cache
-pub record RanOver (old new : Pooled) (sets cache : Slotted) (before after : SectionState) (action : Action) : Type 0 where
-  pub ran : IfSome before.live (λ live. HasRun old new before after live (run_of old before live (lent old sets) action))
+pub record RanOver (old new : Pooled) (sets cache : Slotted) (before after : SectionState)
+    (action : Action) : Type 0 where
+  pub ran : IfSome before.live
+      (λ live. HasRun old new before after live (run_of old before live (lent old sets) action))
   pub continued : IfSome before.armed (λ reserved. HasContinued before after reserved action)
   pub covers : IsCoveredIn (lent old sets) (lent new cache) (touch_of (footprint action))
   pub still : IsLentStill old new sets cache before.hold after.hold
@@ -80,7 +84,8 @@ pub record MayTakeEffect (parts : Parts) (h : ℕ) (action : Action) : Type 0 wh
   pub marked : HoldsMarked (cache_in parts h).residency (hold_in parts.pool (kept_of parts h)).entries
 
 -- it took effect in a cache
-pub record CommitsOver (old new : Pooled) (sets cache : Slotted) (before after : SectionState) (action : Action) : Type 0 where
+pub record CommitsOver (old new : Pooled) (sets cache : Slotted) (before after : SectionState)
+    (action : Action) : Type 0 where
   pub released : IfSome before.live (λ live. HasReleased old before after live action)
   pub committed : HasCommitted (lent old sets) (lent new cache) (hold_in old before).entries
   pub still : IsLentStill old new sets cache before.hold after.hold

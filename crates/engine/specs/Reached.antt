@@ -11,7 +11,8 @@ use Rattle.engine.specs.Parts.{IsInState, Parts}
 use Rattle.rv_flat.specs.Memory.{AreBytes}
 use Rattle.snoop.specs.Shows.{IsReady}
 
--- some program, whose memory is bytes, reaches the state under a configuration for as many harts, by no more events than that allows
+-- some program, whose memory is bytes, reaches the state under a configuration for as many harts, by
+-- no more events than that allows
 pub record IsReached (state : ModelState) : Type 0 where
   pub program : Program
   pub config : Config
@@ -23,8 +24,8 @@ pub record IsReached (state : ModelState) : Type 0 where
   pub within : length events ≤ config.steps
   pub state_is : state ≡ after program config events
 
--- the parts before the first event: the bus is ready, they are in the definition's first state, and main memory is the program's bytes,
--- line by line
+-- the parts before the first event: the bus is ready, they are in the definition's first state, and main memory is
+-- the program's bytes, line by line
 pub record Begins (parts : Parts) (program : Program) (config : Config) : Type 0 where
   pub ready : IsReady parts.bus
   pub is_in : IsInState parts (begin program config)

@@ -1,5 +1,6 @@
 -- events that leave all as it was: those of the bus that find nothing to do, and a whole turn of a hart that waits
-use Rattle.std.specs.Prelude.{ℕ, ◌≡◌, Bool, false, List, None, Option, Some, if◌then◌else◌, is_none, length, not, ◌==◌, ◌&&◌}
+use Rattle.std.specs.Prelude.{ℕ, ◌≡◌, Bool, false, List, None, Option, Some, if◌then◌else◌, is_none, length, not, ◌==◌}
+use Rattle.std.specs.Prelude.{◌&&◌}
 use Rattle.bus_order.specs.Order.{Request}
 use Rattle.el_base.specs.declared.events.Event.{Event}
 use Rattle.el_base.specs.declared.events.Kind.{Kind}

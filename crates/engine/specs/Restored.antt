@@ -29,7 +29,8 @@ pub record AreRestored (mode : Mode) (winner : ℕ → Option ℕ) (count : ℕ 
   pub each : (g : ℕ) → g < length old → own_at new g ≡ own_after mode (winner g) (count g) (own_at old g)
 
 -- so is each hart below a number, and the others are as they were
-pub record AreRestoredBelow (below : ℕ) (mode : Mode) (winner : ℕ → Option ℕ) (count : ℕ → ℕ) (old new : List OwnState) : Type 0 where
+pub record AreRestoredBelow (below : ℕ) (mode : Mode) (winner : ℕ → Option ℕ) (count : ℕ → ℕ)
+    (old new : List OwnState) : Type 0 where
   pub number : length new ≡ length old
   pub done : (g : ℕ) → g < below → own_at new g ≡ own_after mode (winner g) (count g) (own_at old g)
   pub above : (g : ℕ) → below ≤ g → own_at new g ≡ own_at old g

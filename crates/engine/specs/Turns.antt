@@ -9,16 +9,17 @@ use Rattle.engine.specs.Parts.{IsInState, Parts}
 use Rattle.engine.specs.Reached.{IsReached}
 use Rattle.snoop.specs.Shows.{IsReady}
 
--- from each state in which a hart acts so, the parts have come to be in the state of the turn, with its outcome; the bus is ready, and
--- main memory is as it was
-pub record TakesTurn (Acts : ModelState → Type 0) (turn : ModelState → Turn) (old new : Parts) (result : Outcome) : Type 0 where
+-- from each state in which a hart acts so, the parts have come to be in the state of the turn, with its outcome; the
+-- bus is ready, and main memory is as it was
+pub record TakesTurn (Acts : ModelState → Type 0) (turn : ModelState → Turn) (old new : Parts)
+    (result : Outcome) : Type 0 where
   pub ready : IsReady new.bus
   pub state : (from : ModelState) → Acts from → IsInState new (turn from).state
   pub outcome : (from : ModelState) → Acts from → result ≡ (turn from).outcome
   pub memory_stays : new.bus.copies.lines ≡ old.bus.copies.lines
 
--- from each state in which a program comes to be, the parts have come to be in the state after the event, with its outcome; the bus is
--- ready, and main memory is what the event makes of it
+-- from each state in which a program comes to be, the parts have come to be in the state after the event, with its
+-- outcome; the bus is ready, and main memory is what the event makes of it
 pub record TakesEvent (event : Event) (old new : Parts) (result : Outcome) : Type 0 where
   pub ready : IsReady new.bus
   pub state : (from : ModelState) → IsReached from → IsInState old from → IsInState new (next from event).state

@@ -1,5 +1,6 @@
 -- what a hart's events make of what it keeps beside the bus
-use Rattle.std.specs.Prelude.{ℕ, ◌≡◌, Bool, false, true, ◌&&◌, Option, None, Some, is_some, not, nat_le, option_map, if◌then◌else◌}
+use Rattle.std.specs.Prelude.{ℕ, ◌≡◌, Bool, false, true, ◌&&◌, Option, None, Some, is_some, not, nat_le, option_map}
+use Rattle.std.specs.Prelude.{if◌then◌else◌}
 use Rattle.el_base.specs.declared.config.Config.{Config}
 use Rattle.el_base.specs.declared.config.Mode.{Mode}
 use Rattle.el_base.specs.declared.outcomes.Cause.{Cause}
@@ -30,8 +31,10 @@ abbrev pub unreserved_own : ℕ → OwnState → OwnState
 unreserved_own line own =
     record own { section = record own.section { marks = marks_unreserved line own.section.marks } }
 
--- the next instruction of a hart outside of a section: its pc, its action, the exchange that it is, if it is one, and whether it is an LR
-pub record IsNextStep (state : ModelState) (h : ℕ) (config : Config) (pc : ℕ) (action : Action) (swap : Option swaps.Swap)
+-- the next instruction of a hart outside of a section: its pc, its action, the exchange that it is, if it
+-- is one, and whether it is an LR
+pub record IsNextStep (state : ModelState) (h : ℕ) (config : Config) (pc : ℕ) (action : Action)
+    (swap : Option swaps.Swap)
     (reserves : Bool) : Type 0 where
   pub config_is : state.config ≡ config
   pub pc_is : (view_of state.committed h).pc ≡ pc
@@ -44,7 +47,8 @@ abbrev pub own_acquire_pc : ModelState → ℕ → OwnState → Option ℕ
 own_acquire_pc state h own =
     if is_store_conditional (next_insn state.committed h) then own.last_lr else Some (view_of state.committed h).pc
 
--- a candidate that begins at a pc, if one is known, and ran: it ends the fallback, and is watched where no watch stood before
+-- a candidate that begins at a pc, if one is known, and ran: it ends the fallback, and is
+-- watched where no watch stood before
 abbrev pub candidate_own : Option ℕ → Bool → Option Swap → OwnState → OwnState
 candidate_own pc had_watch None own = own
 candidate_own pc had_watch (Some swap) own =
@@ -53,7 +57,8 @@ candidate_own pc had_watch (Some swap) own =
       predictor = if had_watch then own.predictor else watching_from own.predictor pc swap;
     }
 
--- the next instruction of a hart has run outside of a section: the watch, if one stands, has seen it, and the pc of an LR is kept
+-- the next instruction of a hart has run outside of a section: the watch, if one stands, has seen
+-- it, and the pc of an LR is kept
 abbrev pub ran_own : ModelState → ℕ → OwnState → OwnState
 ran_own state h own =
     candidate_own (own_acquire_pc state h own) (is_some own.predictor.watch) (candidate_of state h)

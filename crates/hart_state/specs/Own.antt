@@ -7,7 +7,8 @@ use Rattle.rv_alu.specs.declared.view.HartView.{HartView}
 use Rattle.section_ctl.specs.Calls.{idle_state}
 use Rattle.section_ctl.specs.State.{SectionState}
 
--- the part of a hart that no other hart ever asks for; each field but the first is the one of this name of the definition's hart
+-- the part of a hart that no other hart ever asks for; each field but the first is the one of
+-- this name of the definition's hart
 pub record OwnState : Type 0 where
   pub section : SectionState  -- its live or its armed section or neither, with its views and its buffered stores
   pub last_lr : Option ℕ  -- the pc of the last LR that it ran outside of a section, or that was let go
@@ -34,7 +35,7 @@ new_own view lines owner = record {
   tries = 0;
 }
 
--- the pc of the committed view: outside of a section that of the next instruction, inside of one that of the swap or the LR that it
--- begins with
+-- the pc of the committed view: outside of a section that of the next instruction, inside of one that of the
+-- swap or the LR that it begins with
 abbrev pub committed_pc : OwnState → ℕ
 committed_pc own = (committed_of own.section.marks).pc

@@ -1,5 +1,6 @@
 -- sums over classes of sections: each section is in one class
-use Rattle.std.proofs.Common.{◌≡◌, ◌∙◌, ℕ, zero, suc, ◌+◌, ◌<◌, ◌==◌, ◌&&◌, ◌||◌, Bool, true, false, cond, List, [], ◌∷◌, get_or, refl, ap, sym, eq-eqb, arith}
+use Rattle.std.proofs.Common.{◌≡◌, ◌∙◌, ℕ, zero, suc, ◌+◌, ◌<◌, ◌==◌, ◌&&◌, ◌||◌, Bool, true, false, cond, List, []}
+use Rattle.std.proofs.Common.{◌∷◌, get_or, refl, ap, sym, eq-eqb, arith}
 use Rattle.std.specs.Prelude.{All, sum_by}
 use Rattle.std.specs.Cmp.{IsEquivalence}
 use Rattle.std.specs.List.{AllByRecursion, IsDistinct, list_any, range_with_len}
@@ -40,7 +41,8 @@ classes f value keys (try ∷ tries) once =
     let Once : Try → Type 0 = λ t. sum_by (λ k. f k t) keys ≡ value t in
     omega (
       arith,
-      sum_same (λ k. sum_by (f k) (try ∷ tries)) (λ k. f k try + sum_by (f k) tries) (λ k. sum_by-cons (f k) try tries) keys,
+      sum_same (λ k. sum_by (f k) (try ∷ tries)) (λ k. f k try + sum_by (f k) tries)
+          (λ k. sum_by-cons (f k) try tries) keys,
       sum_of_sums (λ k. f k try) (λ k. sum_by (f k) tries) keys,
       All-head Once try tries once,
       classes f value keys tries (All-tail Once try tries once),
@@ -68,21 +70,35 @@ module _ (number : Tally → ℕ) (none : number nothing ≡ 0) (try : Try) wher
       let other : same_acquire try.acquire acquire ≡ false =
       ap (λ a. same_acquire a acquire) (acquire_is try.acquire first same) ∙ apart.0 in
       let here : number (of_acquire acquire try) ≡ 0 = ap (λ b. number (cond b (counted try) nothing)) other ∙ none in
-      omega (arith, sum_by-cons (λ a. number (of_acquire a try)) acquire acquires, here, unmatched first acquires same apart.1)
+      omega (
+        arith,
+        sum_by-cons (λ a. number (of_acquire a try)) acquire acquires,
+        here,
+        unmatched first acquires same apart.1,
+      )
 
-  matched : (acquires : List Acquire) → IsDistinct same_acquire acquires → list_any (same_acquire try.acquire) acquires ≡ true →
+  matched : (acquires : List Acquire) → IsDistinct same_acquire acquires →
+      list_any (same_acquire try.acquire) acquires ≡ true →
       sum_by (λ acquire. number (of_acquire acquire try)) acquires ≡ number (counted try)
   unfolding IsDistinct
   matched [] distinct there = absurd cc
   matched (acquire ∷ acquires) distinct there =
       by (same_acquire try.acquire acquire) refl there (λ known. matched acquires distinct.1 known)
     where
-      by : (b : Bool) → same_acquire try.acquire acquire ≡ b → (b || list_any (same_acquire try.acquire) acquires) ≡ true →
-          (list_any (same_acquire try.acquire) acquires ≡ true → sum_by (λ a. number (of_acquire a try)) acquires ≡ number (counted try)) →
+      by : (b : Bool) → same_acquire try.acquire acquire ≡ b →
+          (b || list_any (same_acquire try.acquire) acquires) ≡ true →
+          (list_any (same_acquire try.acquire) acquires ≡ true →
+          sum_by (λ a. number (of_acquire a try)) acquires ≡ number (counted try)) →
           sum_by (λ a. number (of_acquire a try)) (acquire ∷ acquires) ≡ number (counted try)
       by true is there rest =
-          let here : number (of_acquire acquire try) ≡ number (counted try) = ap (λ b. number (cond b (counted try) nothing)) is in
-          omega (arith, sum_by-cons (λ a. number (of_acquire a try)) acquire acquires, here, unmatched acquire acquires is distinct.0)
+          let here : number (of_acquire acquire try) ≡ number (counted try) =
+          ap (λ b. number (cond b (counted try) nothing)) is in
+          omega (
+            arith,
+            sum_by-cons (λ a. number (of_acquire a try)) acquire acquires,
+            here,
+            unmatched acquire acquires is distinct.0,
+          )
       by false is there rest =
           let here : number (of_acquire acquire try) ≡ 0 = ap (λ b. number (cond b (counted try) nothing)) is ∙ none in
           omega (arith, sum_by-cons (λ a. number (of_acquire a try)) acquire acquires, here, rest there)
@@ -91,7 +107,8 @@ module _ (number : Tally → ℕ) (none : number nothing ≡ 0) (try : Try) wher
   one_hart : sum_by (λ h. number (of_section h try)) (range_with_len 0 8) ≡ number (counted try)
   one_hart = by try.hart.number try.hart.small
     where
-      by : (n : ℕ) → n < 8 → sum_by (λ h. number (cond (n == h) (counted try) nothing)) (range_with_len 0 8) ≡ number (counted try)
+      by : (n : ℕ) → n < 8 → sum_by (λ h. number (cond (n == h) (counted try) nothing)) (range_with_len 0 8)
+          ≡ number (counted try)
       by zero small = omega (arith, none)
       by (suc zero) small = omega (arith, none)
       by (suc (suc zero)) small = omega (arith, none)
@@ -103,8 +120,9 @@ module _ (number : Tally → ℕ) (none : number nothing ≡ 0) (try : Try) wher
       by (suc (suc (suc (suc (suc (suc (suc (suc n)))))))) small = absurd (omega arith)
 
 -- so the rows sum to the sections of all harts
-by_rows : (number : Tally → ℕ) → number nothing ≡ 0 → (tries : List Try) (acquires : List Acquire) → AreAcquiresOf tries acquires →
-    sum_by (λ acquire. total_at number acquire tries) acquires ≡ sum_by (λ h. total_of number h tries) (range_with_len 0 8)
+by_rows : (number : Tally → ℕ) → number nothing ≡ 0 → (tries : List Try) (acquires : List Acquire) →
+    AreAcquiresOf tries acquires → sum_by (λ acquire. total_at number acquire tries) acquires
+    ≡ sum_by (λ h. total_of number h tries) (range_with_len 0 8)
 by_rows number none tries acquires are =
     classes (λ acquire try. number (of_acquire acquire try)) (λ try. number (counted try)) acquires tries
     (λ k d below. matched number none (get_or tries k d) acquires are.once (are.each k d below))
@@ -120,9 +138,13 @@ rows_sum program config events acquires same range are =
     λ h. sections_are_told program config events h same range in
     record {
       began = by_rows (λ t. t.began) refl tries acquires are ∙ sum_same _ _ (λ h. (told h).began) (range_with_len 0 8);
-      committed = by_rows (λ t. t.committed) refl tries acquires are ∙ sum_same _ _ (λ h. (told h).committed) (range_with_len 0 8);
+      committed =
+          by_rows (λ t. t.committed) refl tries acquires are ∙ sum_same _ _ (λ h. (told h).committed)
+          (range_with_len 0 8);
       instr = by_rows (λ t. t.instr) refl tries acquires are ∙ sum_same _ _ (λ h. (told h).instr) (range_with_len 0 8);
-      conflict = by_rows (λ t. t.conflict) refl tries acquires are ∙ sum_same _ _ (λ h. (told h).conflict) (range_with_len 0 8);
+      conflict =
+          by_rows (λ t. t.conflict) refl tries acquires are ∙ sum_same _ _ (λ h. (told h).conflict)
+          (range_with_len 0 8);
       room = by_rows (λ t. t.room) refl tries acquires are ∙ sum_same _ _ (λ h. (told h).room) (range_with_len 0 8);
       lines = by_rows (λ t. t.lines) refl tries acquires are ∙ sum_same _ _ (λ h. (told h).lines) (range_with_len 0 8);
       long = by_rows (λ t. t.long) refl tries acquires are ∙ sum_same _ _ (λ h. (told h).long) (range_with_len 0 8);
@@ -134,12 +156,16 @@ rows_sum program config events acquires same range are =
 pub same_is : IsEquivalence same_acquire
 same_is = record {
   refl = λ x. one x x refl;
-  symm = λ x y. symm (x.pc == y.pc) (x.word == y.word) (y.pc == x.pc) (y.word == x.word) (turned x.pc y.pc) (turned x.word y.word);
+  symm =
+      λ x y. symm (x.pc == y.pc) (x.word == y.word) (y.pc == x.pc) (y.word == x.word) (turned x.pc y.pc)
+      (turned x.word y.word);
   congr = λ x y z same. ap (λ a. same_acquire a z) (acquire_is x y same);
 }
   where
     one : (x y : Acquire) → x ≡ y → same_acquire x y ≡ true
-    one x y e = both (x.pc == y.pc) (x.word == y.word) (eq-eqb x.pc y.pc (ap (λ a. a.pc) e)) (eq-eqb x.word y.word (ap (λ a. a.word) e))
+    one x y e =
+        both (x.pc == y.pc) (x.word == y.word) (eq-eqb x.pc y.pc (ap (λ a. a.pc) e))
+        (eq-eqb x.word y.word (ap (λ a. a.word) e))
       where
         both : (a b : Bool) → a ≡ true → b ≡ true → (a && b) ≡ true
         both true b p q = q

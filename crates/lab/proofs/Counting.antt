@@ -1,5 +1,6 @@
 -- the sections of a run counted, one event after another
-use Rattle.std.proofs.Common.{◌≡◌, ◌∙◌, ◌+◌, ◌*◌, ◌≤◌, append_assoc, eq-eqb, ◌==◌, ◌&&◌, ℕ, Bool, true, false, cond, List, [], ◌∷◌, ◌++◌, Option}
+use Rattle.std.proofs.Common.{◌≡◌, ◌∙◌, ◌+◌, ◌*◌, ◌≤◌, append_assoc, eq-eqb, ◌==◌, ◌&&◌, ℕ, Bool, true, false, cond}
+use Rattle.std.proofs.Common.{List, [], ◌∷◌, ◌++◌, Option}
 use Rattle.std.proofs.Common.{None, Some, is_some, length, map, refl, ap, sym, subst, arith}
 use Rattle.std.specs.Prelude.{sum_by}
 use Rattle.std.proofs.lemmas.Bool.Decides.{nat_tests}
@@ -25,7 +26,8 @@ use Rattle.lab.proofs.Balance.{Balanced, balanced, one}
 use Rattle.lab.proofs.Growing.{tries_from-push}
 use Rattle.lab.specs.Counts.{SectionsAreThoseOfTheReport, of_end, of_section, total_of}
 use Rattle.lab.specs.Tries as model
-use Rattle.lab.specs.Tries.{Moment, begun_as, begun_in, end_in, ended_by, first_end, lost_end, moment_of, noted, own_end, tries_from}
+use Rattle.lab.specs.Tries.{Moment, begun_as, begun_in, end_in, ended_by, first_end, lost_end, moment_of, noted}
+use Rattle.lab.specs.Tries.{own_end, tries_from}
 use Rattle.lab.specs.declared.tries.Ended.{Ended}
 use Rattle.lab.specs.declared.tries.Ended.TheVariants.{Live, Committed, LostTo, RolledBack}
 use Rattle.lab.specs.declared.tries.Try.{Try}
@@ -55,7 +57,8 @@ end_by own place ran outcome after winner =
     first_end (cond own (own_end place ran outcome) Live) (lost_end place ran after winner)
 
 loss_counts : (own : Bool) (place ran : ℕ) (after : ModelState) (winner : Option ℕ) →
-    of_end (first_end (cond own Live Live) (lost_end place ran after winner)) ≡ record nothing { conflict = one (is_some winner) }
+    of_end (first_end (cond own Live Live) (lost_end place ran after winner))
+    ≡ record nothing { conflict = one (is_some winner) }
 loss_counts true place ran after None = refl
 loss_counts true place ran after (Some winner) = refl
 loss_counts false place ran after None = refl
@@ -80,17 +83,24 @@ end_counts true place ran (outcomes.RolledBack Mixed) after h = refl
 end_counts true place ran (outcomes.Blocked why by) after h = refl
 end_counts true place ran outcomes.Armed after h = refl
 end_counts true place ran (outcomes.LetGo count) after h = refl
-end_counts true place ran (outcomes.Ordered losers freed) after h = loss_counts true place ran after (winner_over (outcomes.Ordered losers freed) h)
-end_counts true place ran (outcomes.Served losers freed) after h = loss_counts true place ran after (winner_over (outcomes.Served losers freed) h)
-end_counts true place ran (outcomes.Delivered losers) after h = loss_counts true place ran after (winner_over (outcomes.Delivered losers) h)
-end_counts false place ran (outcomes.Ordered losers freed) after h = loss_counts false place ran after (winner_over (outcomes.Ordered losers freed) h)
-end_counts false place ran (outcomes.Served losers freed) after h = loss_counts false place ran after (winner_over (outcomes.Served losers freed) h)
-end_counts false place ran (outcomes.Delivered losers) after h = loss_counts false place ran after (winner_over (outcomes.Delivered losers) h)
+end_counts true place ran (outcomes.Ordered losers freed) after h =
+    loss_counts true place ran after (winner_over (outcomes.Ordered losers freed) h)
+end_counts true place ran (outcomes.Served losers freed) after h =
+    loss_counts true place ran after (winner_over (outcomes.Served losers freed) h)
+end_counts true place ran (outcomes.Delivered losers) after h =
+    loss_counts true place ran after (winner_over (outcomes.Delivered losers) h)
+end_counts false place ran (outcomes.Ordered losers freed) after h =
+    loss_counts false place ran after (winner_over (outcomes.Ordered losers freed) h)
+end_counts false place ran (outcomes.Served losers freed) after h =
+    loss_counts false place ran after (winner_over (outcomes.Served losers freed) h)
+end_counts false place ran (outcomes.Delivered losers) after h =
+    loss_counts false place ran after (winner_over (outcomes.Delivered losers) h)
 end_counts false place ran _ after h = refl
 
 -- whether it leaves a section live
 loss_lives : (own : Bool) (place ran : ℕ) (after : ModelState) (winner : Option ℕ) →
-    one (is_live_end (first_end (cond own Live Live) (lost_end place ran after winner))) + (0 + 0 + one (is_some winner)) ≡ 1
+    one (is_live_end (first_end (cond own Live Live) (lost_end place ran after winner)))
+    + (0 + 0 + one (is_some winner)) ≡ 1
 loss_lives true place ran after None = refl
 loss_lives true place ran after (Some winner) = refl
 loss_lives false place ran after None = refl
@@ -98,13 +108,20 @@ loss_lives false place ran after (Some winner) = refl
 
 end_lives : (own : Bool) (place ran : ℕ) (outcome : Outcome) (after : ModelState) (h : ℕ) →
     one (is_live_end (end_by own place ran outcome after (winner_over outcome h)))
-    + (one (own && is_committed outcome) + one (own && is_rolled_back outcome) + one (is_some (winner_over outcome h))) ≡ 1
-end_lives true place ran (outcomes.Ordered losers freed) after h = loss_lives true place ran after (winner_over (outcomes.Ordered losers freed) h)
-end_lives true place ran (outcomes.Served losers freed) after h = loss_lives true place ran after (winner_over (outcomes.Served losers freed) h)
-end_lives true place ran (outcomes.Delivered losers) after h = loss_lives true place ran after (winner_over (outcomes.Delivered losers) h)
-end_lives false place ran (outcomes.Ordered losers freed) after h = loss_lives false place ran after (winner_over (outcomes.Ordered losers freed) h)
-end_lives false place ran (outcomes.Served losers freed) after h = loss_lives false place ran after (winner_over (outcomes.Served losers freed) h)
-end_lives false place ran (outcomes.Delivered losers) after h = loss_lives false place ran after (winner_over (outcomes.Delivered losers) h)
+    + (one (own && is_committed outcome) + one (own && is_rolled_back outcome) + one (is_some (winner_over outcome h)))
+    ≡ 1
+end_lives true place ran (outcomes.Ordered losers freed) after h =
+    loss_lives true place ran after (winner_over (outcomes.Ordered losers freed) h)
+end_lives true place ran (outcomes.Served losers freed) after h =
+    loss_lives true place ran after (winner_over (outcomes.Served losers freed) h)
+end_lives true place ran (outcomes.Delivered losers) after h =
+    loss_lives true place ran after (winner_over (outcomes.Delivered losers) h)
+end_lives false place ran (outcomes.Ordered losers freed) after h =
+    loss_lives false place ran after (winner_over (outcomes.Ordered losers freed) h)
+end_lives false place ran (outcomes.Served losers freed) after h =
+    loss_lives false place ran after (winner_over (outcomes.Served losers freed) h)
+end_lives false place ran (outcomes.Delivered losers) after h =
+    loss_lives false place ran after (winner_over (outcomes.Delivered losers) h)
 end_lives true place ran _ after h = refl
 end_lives false place ran _ after h = refl
 
@@ -128,7 +145,8 @@ live_is (LostTo at ran winner line) is = absurd cc
 live_is (RolledBack at ran cause) is = absurd cc
 
 -- one number of a tally, of those that the ends of sections tell
-module _ (number : Tally → ℕ) (told : (tally : Tally) → number tally ≡ number (of_ends tally)) (none : number nothing ≡ 0) (h : ℕ) where
+module _ (number : Tally → ℕ) (told : (tally : Tally) → number tally ≡ number (of_ends tally))
+    (none : number nothing ≡ 0) (h : ℕ) where
   end_value : (ended : Ended) → number (record (of_end ended) { began = 1 }) ≡ number (of_end ended)
   end_value ended = told (record (of_end ended) { began = 1 }) ∙ sym (told (of_end ended))
 
@@ -141,11 +159,13 @@ module _ (number : Tally → ℕ) (told : (tally : Tally) → number tally ≡ n
   ended_value (RolledBack at ran cause) more = omega arith
 
   one_value : (moment : Moment) (try : Try) →
-      number (of_section h (ended_by moment try)) ≡ number (of_section h try) + lives h try * number (of_end (end_in moment h))
+      number (of_section h (ended_by moment try)) ≡ number (of_section h try) + lives h
+      try * number (of_end (end_in moment h))
   one_value moment try = by (try.hart.number == h) refl
     where
       by : (own : Bool) → (try.hart.number == h) ≡ own →
-          number (cond own (record (of_end (first_end try.ended (end_in moment try.hart.number))) { began = 1 }) nothing)
+          number (cond own (record (of_end (first_end try.ended (end_in moment try.hart.number))) { began = 1 })
+          nothing)
           ≡ number (cond own (record (of_end try.ended) { began = 1 }) nothing)
           + one (own && is_live_end try.ended) * number (of_end (end_in moment h))
       by true e =
@@ -193,9 +213,11 @@ module _ (number : Tally → ℕ) (told : (tally : Tally) → number tally ≡ n
   begun_sum _ after place hart section = refl
 
   noted_sum : (moment : Moment) (tries : List Try) →
-      total_of number h (noted moment tries) ≡ total_of number h tries + live_count h tries * number (of_end (end_in moment h))
+      total_of number h (noted moment tries) ≡ total_of number h tries + live_count h
+      tries * number (of_end (end_in moment h))
   noted_sum moment tries =
-      let apart = sum_by-append (λ try. number (of_section h try)) (map (ended_by moment) tries) (begun_in moment Live) in
+      let apart =
+      sum_by-append (λ try. number (of_section h try)) (map (ended_by moment) tries) (begun_in moment Live) in
       let begun = begun_sum moment.outcome moment.after moment.place moment.event.hart
       (section_of moment.after moment.event.hart.number) in
       omega (arith, apart, begun, ended_sum moment tries)
@@ -208,18 +230,23 @@ module _ (number : Tally → ℕ) (told : (tally : Tally) → number tally ≡ n
   unfolding of_entry
   entry_value state place event was now balance =
       by was balance
-      ∙ ap number (end_counts (event.hart.number == h) place (model.ran_in state h) (next state event).outcome (next state event).state h)
+      ∙ ap number
+      (end_counts (event.hart.number == h) place (model.ran_in state h) (next state event).outcome
+      (next state event).state h)
       ∙ sym (told (of_entry h (record { event = event; outcome = (next state event).outcome })))
     where
       ended : Ended
       ended = end_in (moment_of state place event) h
 
       by : (was : Bool) → Balanced (event.hart.number == h) (next state event).outcome h was now →
-          one was * number (of_end (end_in (moment_of state place event) h)) ≡ number (of_end (end_in (moment_of state place event) h))
+          one was * number (of_end (end_in (moment_of state place event) h))
+          ≡ number (of_end (end_in (moment_of state place event) h))
       by true balance = omega arith
       by false balance =
           let ends = quiet (event.hart.number == h) (next state event).outcome h now balance in
-          let live = end_lives (event.hart.number == h) place (model.ran_in state h) (next state event).outcome (next state event).state h in
+          let live =
+          end_lives (event.hart.number == h) place (model.ran_in state h) (next state event).outcome
+          (next state event).state h in
           let is : end_in (moment_of state place event) h ≡ Live = live_is _ (omega (arith, ends, live)) in
           let zero_ = ap (λ e. number (of_end e)) is ∙ none in
           omega (arith, zero_)
@@ -230,7 +257,8 @@ module _ (h : ℕ) where
       lives h (ended_by moment try) ≡ lives h try * one (is_live_end (end_in moment h))
   one_lives moment try = by (try.hart.number == h) refl
     where
-      ends : (was more : Ended) → one (is_live_end (first_end was more)) ≡ one (is_live_end was) * one (is_live_end more)
+      ends : (was more : Ended) →
+          one (is_live_end (first_end was more)) ≡ one (is_live_end was) * one (is_live_end more)
       ends Live more = omega arith
       ends (Committed at count) more = omega arith
       ends (LostTo at ran winner line) more = omega arith
@@ -262,7 +290,8 @@ module _ (h : ℕ) where
 
   begun_count : (outcome : Outcome) (after : ModelState) (place : ℕ) (hart : HartId) (section : Option Section) →
       (outcome ≡ outcomes.Began → is_some section ≡ true) →
-      live_count h (begun_as outcome (model.of_section after place hart section Live)) ≡ one ((hart.number == h) && is_began outcome)
+      live_count h (begun_as outcome (model.of_section after place hart section Live))
+      ≡ one ((hart.number == h) && is_began outcome)
   begun_count outcomes.Began after place hart None some = absurd (is_there (some refl))
     where
       is_there : false ≡ true → ⊥
@@ -287,7 +316,9 @@ module _ (h : ℕ) where
           one was * one (is_live_end (end_in (moment_of state place event) h))
           + one ((event.hart.number == h) && is_began (next state event).outcome) ≡ one now
       by true balance =
-          let live = end_lives (event.hart.number == h) place (model.ran_in state h) (next state event).outcome (next state event).state h in
+          let live =
+          end_lives (event.hart.number == h) place (model.ran_in state h) (next state event).outcome
+          (next state event).state h in
           omega (arith, live, balance)
       by false balance =
           let ends = quiet (event.hart.number == h) (next state event).outcome h now balance in
@@ -330,7 +361,8 @@ module _ (h : ℕ) where
   begun_began outcomes.Began after place hart (Some section) some = omega (arith, began_of (hart.number == h) nothing)
   begun_began _ after place hart section some = none_own (hart.number == h)
 
-  entry_began : (own : Bool) (outcome : Outcome) → one (own && is_began outcome) ≡ (cond own (of_outcome outcome) nothing).began
+  entry_began : (own : Bool) (outcome : Outcome) →
+      one (own && is_began outcome) ≡ (cond own (of_outcome outcome) nothing).began
   entry_began true (outcomes.RolledBack Room) = refl
   entry_began true (outcomes.RolledBack Lines) = refl
   entry_began true (outcomes.RolledBack Long) = refl
@@ -342,14 +374,22 @@ module _ (h : ℕ) where
   noted_began : (state : ModelState) (place : ℕ) (event : Event) (tries : List Try) →
       ((next state event).outcome ≡ outcomes.Began → is_live (next state event).state event.hart.number ≡ true) →
       total_of (λ tally. tally.began) h (noted (moment_of state place event) tries)
-      ≡ total_of (λ tally. tally.began) h tries + (of_entry h (record { event = event; outcome = (next state event).outcome })).began
+      ≡ total_of (λ tally. tally.began) h
+      tries + (of_entry h (record { event = event; outcome = (next state event).outcome })).began
   unfolding of_entry
   noted_began state place event tries begins =
       let moment = moment_of state place event in
-      let apart = sum_by-append (λ try. (of_section h try).began) (map (ended_by moment) tries) (begun_in moment Live) in
+      let apart =
+      sum_by-append (λ try. (of_section h try).began) (map (ended_by moment) tries) (begun_in moment Live) in
       let begun = begun_began (next state event).outcome (next state event).state place event.hart
       (section_of (next state event).state event.hart.number) begins in
-      omega (arith, apart, begun, began_sum moment tries, entry_began (event.hart.number == h) (next state event).outcome)
+      omega (
+        arith,
+        apart,
+        begun,
+        began_sum moment tries,
+        entry_began (event.hart.number == h) (next state event).outcome,
+      )
 
 -- what the sections of some events tell
 record Told (program : Program) (config : Config) (h : ℕ) (events : List Event) : Type 0 where
@@ -359,36 +399,43 @@ record Told (program : Program) (config : Config) (h : ℕ) (events : List Event
       ≡ total (λ tally. tally.began) h (entries_from (begin program config) events)
   ends :
       (number : Tally → ℕ) → ((tally : Tally) → number tally ≡ number (of_ends tally)) → number nothing ≡ 0 →
-      total_of number h (tries_from (begin program config) 0 events) ≡ total number h (entries_from (begin program config) events)
+      total_of number h (tries_from (begin program config) 0 events) ≡ total number h
+      (entries_from (begin program config) events)
 
-module _ (program : Program) (config : Config) (same : program.harts ≡ config.harts) (range : IsInRange config) (h : ℕ) where
-  begins_live : (events : List Event) (event : Event) → (next (after program config events) event).outcome ≡ outcomes.Began →
-      is_live (next (after program config events) event).state event.hart.number ≡ true
+module _ (program : Program) (config : Config) (same : program.harts ≡ config.harts)
+    (range : IsInRange config) (h : ℕ) where
+  begins_live : (events : List Event) (event : Event) → (next (after program config events) event).outcome
+      ≡ outcomes.Began → is_live (next (after program config events) event).state event.hart.number ≡ true
   begins_live events event began =
       let state = after program config events in
       let balance = balanced program config events event event.hart.number same range in
       by (is_live state event.hart.number) (is_live (next state event).state event.hart.number) refl
-      (subst (λ outcome. Balanced (event.hart.number == event.hart.number) outcome event.hart.number (is_live state event.hart.number)
+      (subst (λ outcome. Balanced (event.hart.number == event.hart.number) outcome event.hart.number
+      (is_live state event.hart.number)
       (is_live (next state event).state event.hart.number)) began balance)
     where
       by : (was now : Bool) → is_live (next (after program config events) event).state event.hart.number ≡ now →
           Balanced (event.hart.number == event.hart.number) outcomes.Began event.hart.number was now →
           is_live (next (after program config events) event).state event.hart.number ≡ true
       by was true is balance = is
-      by was false is balance = absurd (none (event.hart.number == event.hart.number) was (eq-eqb event.hart.number event.hart.number refl) balance)
+      by was false is balance =
+          absurd (none (event.hart.number == event.hart.number) was
+          (eq-eqb event.hart.number event.hart.number refl) balance)
         where
           none : (own was : Bool) → own ≡ true → Balanced own outcomes.Began event.hart.number was false → ⊥
           none true was own balance = omega (arith, balance)
           none false was own balance = cc
 
-  one_more : (events : List Event) (event : Event) → Told program config h events → Told program config h (events ++ event ∷ [])
+  one_more : (events : List Event) (event : Event) → Told program config h events →
+      Told program config h (events ++ event ∷ [])
   one_more events event told =
       let from = begin program config in
       let state = after program config events in
       let entry : Entry = record { event = event; outcome = (next state event).outcome } in
       let balance = balanced program config events event h same range in
       let begins = begins_live events event in
-      let grown : tries_from from 0 (events ++ event ∷ []) ≡ noted (moment_of state (length events) event) (tries_from from 0 events) =
+      let grown : tries_from from 0 (events ++ event ∷ []) ≡ noted (moment_of state (length events) event)
+      (tries_from from 0 events) =
       tries_from-push from 0 (length events) events event (omega arith) in
       let entries : entries_from from (events ++ event ∷ []) ≡ entries_from from events ++ entry ∷ [] =
       entries_from-append from events (event ∷ []) in
@@ -402,21 +449,26 @@ module _ (program : Program) (config : Config) (same : program.harts ≡ config.
             ap (total_of (λ tally. tally.began) h) grown
             ∙ noted_began h state (length events) event (tries_from from 0 events) begins
             ∙ ap (λ n. n + (of_entry h entry).began) told.began
-            ∙ sym (ap (total (λ tally. tally.began) h) entries ∙ sum_by_push (λ e. (of_entry h e).began) (entries_from from events) entry);
+            ∙ sym (ap (total (λ tally. tally.began) h) entries ∙ sum_by_push (λ e. (of_entry h e).began)
+            (entries_from from events) entry);
         ends = λ number is none.
             ap (total_of number h) grown
             ∙ noted_sum number is none h (moment_of state (length events) event) (tries_from from 0 events)
-            ∙ ap (λ n. total_of number h (tries_from from 0 events) + n * number (of_end (end_in (moment_of state (length events) event) h))) told.live
+            ∙ ap (λ n. total_of number h (tries_from from 0 events) + n
+            * number (of_end (end_in (moment_of state (length events) event) h))) told.live
             ∙ ap (λ n. total_of number h (tries_from from 0 events) + n)
-            (entry_value number is none h state (length events) event (is_live state h) (is_live (next state event).state h) balance)
+            (entry_value number is none h state (length events) event (is_live state h)
+            (is_live (next state event).state h) balance)
             ∙ ap (λ n. n + number (of_entry h entry)) (told.ends number is none)
-            ∙ sym (ap (total number h) entries ∙ sum_by_push (λ e. number (of_entry h e)) (entries_from from events) entry);
+            ∙ sym (ap (total number h) entries ∙ sum_by_push (λ e. number (of_entry h e))
+            (entries_from from events) entry);
       }
 
   all_told : (earlier later : List Event) → Told program config h earlier → Told program config h (earlier ++ later)
   all_told earlier [] told = subst (Told program config h) (sym (append-nil earlier)) told
   all_told earlier (event ∷ later) told =
-      subst (Told program config h) (append_assoc earlier (event ∷ []) later) (all_told (earlier ++ event ∷ []) later (one_more earlier event told))
+      subst (Told program config h) (append_assoc earlier (event ∷ []) later)
+      (all_told (earlier ++ event ∷ []) later (one_more earlier event told))
 
   none_told : Told program config h []
   none_told = record {

@@ -20,8 +20,8 @@ first_end-assoc (LostTo at ran winner line) b c = refl
 first_end-assoc (RolledBack at ran cause) b c = refl
 
 -- one event more, at the place behind the others
-pub end_from-push : (state : ModelState) (place here h : ℕ) (events : List Event) (event : Event) → here ≡ place + length events →
-    end_from state place h (events ++ event ∷ [])
+pub end_from-push : (state : ModelState) (place here h : ℕ) (events : List Event) (event : Event) →
+    here ≡ place + length events → end_from state place h (events ++ event ∷ [])
     ≡ first_end (end_from state place h events) (end_in (moment_of (state_after state events) here event) h)
 end_from-push state place here h [] event at =
     first_end-live (end_in (moment_of state place event) h)

@@ -47,7 +47,8 @@ module _ {X : Type 0} {same : X → X → Bool} (laws : IsEquivalence same) wher
       last true e = ap (λ b. cond (not b) (x ∷ []) []) (laws.symm y x ∙ e)
       last false e = ap (λ b. cond (not b) (x ∷ []) []) (laws.symm y x ∙ e)
 
-      more : (b : Bool) → same x y ≡ b → filter keep (firsts same xs ++ x ∷ []) ≡ filter keep (firsts same xs) ++ cond b [] (x ∷ [])
+      more : (b : Bool) → same x y ≡ b →
+          filter keep (firsts same xs ++ x ∷ []) ≡ filter keep (firsts same xs) ++ cond b [] (x ∷ [])
       more b e = filter-append keep (firsts same xs) (x ∷ []) ∙ ap (λ l. filter keep (firsts same xs) ++ l) (last b e)
 
       chosen : (c : Bool) → list_any (same x) (filter keep (firsts same xs)) ≡ c →

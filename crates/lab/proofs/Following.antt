@@ -1,5 +1,6 @@
 -- following a story, event by event
-use Rattle.std.proofs.Common.{◌≡◌, ◌∙◌, ◌⊎◌, ◌==◌, true, false, cond, ℕ, ◌+◌, ◌<◌, List, [], ◌∷◌, ◌++◌, length, take, get_or, ap, sym, subst, length-append}
+use Rattle.std.proofs.Common.{◌≡◌, ◌∙◌, ◌⊎◌, ◌==◌, true, false, cond, ℕ, ◌+◌, ◌<◌, List, [], ◌∷◌, ◌++◌, length, take}
+use Rattle.std.proofs.Common.{get_or, ap, sym, subst, length-append}
 use Rattle.std.specs.Prelude.{IsSome, slice_index}
 use Rattle.std.proofs.lemmas.List.{take_more}
 use Rattle.el_base.specs.Winners.{winner_over}
@@ -11,7 +12,8 @@ use Rattle.el_model.specs.State.{ModelState, is_live}
 use Rattle.lab.proofs.Growing.{tries_from-push}
 use Rattle.lab.proofs.Living.{still_live}
 use Rattle.lab.proofs.Noting.{map_same}
-use Rattle.lab.specs.Tries.{AreLive, Moment, begun_in, ended_by, first_end, lost_end, moment_of, noted, own_end, ran_in, tries_from}
+use Rattle.lab.specs.Tries.{AreLive, Moment, begun_in, ended_by, first_end, lost_end, moment_of, noted, own_end, ran_in}
+use Rattle.lab.specs.Tries.{tries_from}
 use Rattle.lab.specs.declared.tries.Ended.TheVariants.{Live}
 use Rattle.lab.specs.declared.tries.Try.{Try}
 use Rattle.machine.proofs.Laws.Continued.{state_of_continued}
@@ -45,20 +47,25 @@ pub step_keeps : (before after : Story) (event : Event) (outcome : Outcome) (pla
     EndsAreNamed (change before event outcome after) → AreLive (state_of before) tries →
     later ≡ noted (moment_of (state_of before) place event) tries → AreLive (state_of after) later
 step_keeps before after event outcome place tries later goes told named live is =
-    let new : state_of after ≡ (next (state_of before) event).state = ap state_of goes ∙ state_of_continued before (event ∷ []) in
+    let new : state_of after ≡ (next (state_of before) event).state =
+    ap state_of goes ∙ state_of_continued before (event ∷ []) in
     let ends : (h : ℕ) → is_live (state_of before) h ≡ true → is_live (next (state_of before) event).state h ≡ false →
-    EndsIt event (next (state_of before) event).outcome h ⊎ IsSome (winner_over (next (state_of before) event).outcome h) =
-    λ h lived dead. subst (λ o. EndsIt event o h ⊎ IsSome (winner_over o h)) told (named h lived (ap (λ s. is_live s h) new ∙ dead)) in
+    EndsIt event (next (state_of before) event).outcome h
+    ⊎ IsSome (winner_over (next (state_of before) event).outcome h) =
+    λ h lived dead. subst (λ o. EndsIt event o h ⊎ IsSome (winner_over o h)) told
+    (named h lived (ap (λ s. is_live s h) new ∙ dead)) in
     subst (λ state. AreLive state later) (sym new)
-    (subst (AreLive (next (state_of before) event).state) (sym is) (still_live (state_of before) place event tries ends live))
+    (subst (AreLive (next (state_of before) event).state) (sym is)
+    (still_live (state_of before) place event tries ends live))
 
 -- what had run before an event need be known of the harts that there are
-pub noted_same : (place : ℕ) (first second : ℕ → ℕ) (event : Event) (outcome : Outcome) (after : ModelState) (tries : List Try) →
-    ((h : ℕ) → h < 8 → first h ≡ second h) →
+pub noted_same : (place : ℕ) (first second : ℕ → ℕ) (event : Event) (outcome : Outcome) (after : ModelState)
+    (tries : List Try) → ((h : ℕ) → h < 8 → first h ≡ second h) →
     noted (record { place = place; ran = first; event = event; outcome = outcome; after = after }) tries
     ≡ noted (record { place = place; ran = second; event = event; outcome = outcome; after = after }) tries
 noted_same place first second event outcome after tries agree =
-    let of : (ℕ → ℕ) → Moment = λ ran. record { place = place; ran = ran; event = event; outcome = outcome; after = after } in
+    let of : (ℕ → ℕ) → Moment =
+    λ ran. record { place = place; ran = ran; event = event; outcome = outcome; after = after } in
     ap (λ list. list ++ begun_in (of first) Live)
     (map_same (ended_by (of first)) (ended_by (of second))
     (λ try.
@@ -69,16 +76,27 @@ noted_same place first second event outcome after tries agree =
     }) (agree try.hart.number try.hart.small)) tries)
 
 -- the event that a machine has made, noted with what had run before
-pub noted_moment : (before after : Story) (event : Event) (outcome : Outcome) (place : ℕ) (ran : List ℕ) (tries later : List Try) →
-    after ≡ continued before (event ∷ []) → outcome ≡ (next (state_of before) event).outcome →
+pub noted_moment : (before after : Story) (event : Event) (outcome : Outcome) (place : ℕ) (ran : List ℕ)
+    (tries later : List Try) → after ≡ continued before (event ∷ []) →
+    outcome ≡ (next (state_of before) event).outcome →
     ((h : ℕ) → h < 8 → slice_index ran h ≡ ran_in (state_of before) h) → place ≡ length before.entries →
-    later ≡ noted (record { place = place; ran = slice_index ran; event = event; outcome = outcome; after = state_of after }) tries →
-    later ≡ noted (moment_of (state_of before) (length before.entries) event) tries
+    later
+    ≡ noted (record { place = place; ran = slice_index ran; event = event; outcome = outcome; after = state_of after })
+    tries → later ≡ noted (moment_of (state_of before) (length before.entries) event) tries
 noted_moment before after event outcome place ran tries later goes told counts at is =
-    let new : state_of after ≡ (next (state_of before) event).state = ap state_of goes ∙ state_of_continued before (event ∷ []) in
+    let new : state_of after ≡ (next (state_of before) event).state =
+    ap state_of goes ∙ state_of_continued before (event ∷ []) in
     is
     ∙ noted_same place (slice_index ran) (ran_in (state_of before)) event outcome (state_of after) tries counts
-    ∙ ap (λ s. noted (record { place = place; ran = ran_in (state_of before); event = event; outcome = outcome; after = s }) tries) new
+    ∙ ap
+    (λ s.
+    noted (record {
+      place = place;
+      ran = ran_in (state_of before);
+      event = event;
+      outcome = outcome;
+      after = s;
+    }) tries) new
     ∙ ap (λ o. noted (record {
       place = place;
       ran = ran_in (state_of before);

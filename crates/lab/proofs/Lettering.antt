@@ -1,5 +1,6 @@
 -- the letters of a line, one hart after another, and places in the order
-use Rattle.std.proofs.Common.{◌≡◌, ◌∙◌, ◌==◌, ℕ, ◌+◌, ◌<◌, ◌≤◌, List, length, map, not, set, get_or, ap, arith, inl, inr, length-set, refl, subst}
+use Rattle.std.proofs.Common.{◌≡◌, ◌∙◌, ◌==◌, ℕ, ◌+◌, ◌<◌, ◌≤◌, List, length, map, not, set, get_or, ap, arith, inl}
+use Rattle.std.proofs.Common.{inr, length-set, refl, subst}
 use Rattle.std.proofs.lemmas.Grind.{get_or-set_at}
 use Rattle.std.proofs.lemmas.List.{get_or-set_other, length-map}
 use Rattle.std.specs.List.{position}
@@ -15,8 +16,9 @@ abbrev pub AreBelow : (ℕ → Letter) → ℕ → List Letter → ℕ → Type 
 AreBelow wanted harts letters k =
     (length letters ≡ 8) × ((h : ℕ) → h < k → h < harts → get_or letters h I ≡ wanted h)
 
-pub letter_put : (wanted : ℕ → Letter) (harts : ℕ) (letters : List Letter) (k place : ℕ) (letter : Letter) → k < 8 → place ≡ k →
-    letter ≡ wanted k → AreBelow wanted harts letters k → AreBelow wanted harts (set letters place letter) (k + 1)
+pub letter_put : (wanted : ℕ → Letter) (harts : ℕ) (letters : List Letter) (k place : ℕ) (letter : Letter) → k < 8 →
+    place ≡ k → letter ≡ wanted k → AreBelow wanted harts letters k →
+    AreBelow wanted harts (set letters place letter) (k + 1)
 letter_put wanted harts letters k place letter below at is before =
     (length-set letters place letter ∙ before.0, λ h inside there. by h inside there)
   where
@@ -37,5 +39,6 @@ letter_passed wanted harts letters k past before = (before.0, λ h inside there.
 pub place_of_numbered : (list : List requests.Request) (order : List Request) (h : ℕ) → map numbered list ≡ order →
     position (λ request. request.hart.number == h) list ≡ position (λ request. request.hart == h) order
 place_of_numbered list order h is =
-    subst (λ other. position (λ request. request.hart.number == h) list ≡ position (λ request. request.hart == h) other) is
+    subst (λ other. position (λ request. request.hart.number == h) list ≡ position (λ request. request.hart == h) other)
+    is
     (rw (prefix_of_map numbered (λ request. not (request.hart == h)) list) (rw (length-map list numbered) refl))

@@ -1,5 +1,6 @@
 -- lines that are put behind others, and what an event tells of lines
-use Rattle.std.proofs.Common.{◌≡◌, ◌∙◌, ℕ, suc, ◌+◌, ◌<◌, ◌≤◌, ◌==◌, ◌||◌, nat_eq, Bool, true, false, cond, List, [], ◌∷◌, ◌++◌, Option, Some, None}
+use Rattle.std.proofs.Common.{◌≡◌, ◌∙◌, ℕ, suc, ◌+◌, ◌<◌, ◌≤◌, ◌==◌, ◌||◌, nat_eq, Bool, true, false, cond, List, []}
+use Rattle.std.proofs.Common.{◌∷◌, ◌++◌, Option, Some, None}
 use Rattle.std.proofs.Common.{length, take, get_or, refl, ap, subst, sym, arith, append-nil, append_assoc, eq-eqb}
 use Rattle.std.specs.Prelude.{filter_map}
 use Rattle.std.specs.Cmp.{IsEquivalence}
@@ -38,7 +39,8 @@ use Rattle.lab.proofs.Firsting.{firsts_push, or_flip}
 use Rattle.lab.proofs.Noting.{line_back}
 use Rattle.lab.specs.Firsts.{firsts}
 use Rattle.lab.specs.LineRows.{AreLinesOf, AreSeenLines, all_lines, has_line, is_line, is_on, same_line, with_line}
-use Rattle.lab.specs.Lines.{Asking, asked_in, back_facts, facts_by, facts_in, if_served, loss_facts, losses_below, owner_facts, same_owner}
+use Rattle.lab.specs.Lines.{Asking, asked_in, back_facts, facts_by, facts_in, if_served, loss_facts, losses_below}
+use Rattle.lab.specs.Lines.{owner_facts, same_owner}
 use Rattle.lab.specs.Tries.{line_waited_for}
 use Rattle.lab.specs.declared.lines.Fact.{Fact}
 use Rattle.lab.specs.declared.lines.LineFact.TheVariants.{Lost, Owner}
@@ -47,9 +49,9 @@ use Rattle.machine.specs.Story.{Story, continued, state_of}
 use Rattle.snoop.specs.Shows.{BusState, Shows}
 
 -- a line that was new is seen from then on
-pub line_seen_more : {S : Type 0} (lines : List LineAddr) (old new : HashSet ℕ S) (line : LineAddr) (number : ℕ) → AreSeenLines lines old →
-    contains nat_eq new number ≡ cond (nat_eq line.number number) true (contains nat_eq old number) →
-    contains nat_eq new number ≡ has_line (lines ++ line ∷ []) number
+pub line_seen_more : {S : Type 0} (lines : List LineAddr) (old new : HashSet ℕ S) (line : LineAddr) (number : ℕ) →
+    AreSeenLines lines old → contains nat_eq new number ≡ cond (nat_eq line.number number) true
+    (contains nat_eq old number) → contains nat_eq new number ≡ has_line (lines ++ line ∷ []) number
 line_seen_more lines old new line number seen updated =
     let test : LineAddr → Bool = λ other. other.number == number in
     updated
@@ -95,7 +97,8 @@ has_with line lines number = by (has_line lines line.number) refl
         list_any-append test lines (line ∷ [])
         ∙ ap (λ b. has_line lines number || b) (or-false (line.number == number))
 
-once_with : (line : LineAddr) (lines : List LineAddr) → IsDistinct same_line lines → IsDistinct same_line (with_line line lines)
+once_with : (line : LineAddr) (lines : List LineAddr) → IsDistinct same_line lines →
+    IsDistinct same_line (with_line line lines)
 once_with line lines once = by (has_line lines line.number) refl
   where
     by : (b : Bool) → has_line lines line.number ≡ b → IsDistinct same_line (cond b lines (lines ++ line ∷ []))
@@ -107,9 +110,9 @@ unfolding IsDistinct
 no_line_yet = record { once = tt; each = λ number. refl }
 
 -- one fact more
-pub line_put : (facts : List Fact) (place : ℕ) (fact : Fact) (line : LineAddr) (lines : List LineAddr) → place < length facts →
-    fact ≡ get_or facts place fact → fact.line ≡ Some line → AreLinesOf (take place facts) lines →
-    AreLinesOf (take (place + 1) facts) (with_line line lines)
+pub line_put : (facts : List Fact) (place : ℕ) (fact : Fact) (line : LineAddr) (lines : List LineAddr) →
+    place < length facts → fact ≡ get_or facts place fact → fact.line ≡ Some line →
+    AreLinesOf (take place facts) lines → AreLinesOf (take (place + 1) facts) (with_line line lines)
 line_put facts place fact line lines below here is are = record {
   once = once_with line lines are.once;
   each = λ number.
@@ -121,7 +124,8 @@ line_put facts place fact line lines below here is are = record {
 }
 
 pub line_passed : (facts : List Fact) (place : ℕ) (fact : Fact) (lines : List LineAddr) → place < length facts →
-    fact ≡ get_or facts place fact → fact.line ≡ None → AreLinesOf (take place facts) lines → AreLinesOf (take (place + 1) facts) lines
+    fact ≡ get_or facts place fact → fact.line ≡ None → AreLinesOf (take place facts) lines →
+    AreLinesOf (take (place + 1) facts) lines
 line_passed facts place fact lines below here is are = record {
   once = are.once;
   each = λ number.
@@ -150,8 +154,9 @@ one_told facts place fact line below here is =
     ∙ ap (λ (f : Fact). all_lines (take place facts) ++ filter_map (λ o. o) (f.line ∷ [])) (sym here)
     ∙ ap (λ o. all_lines (take place facts) ++ filter_map (λ o. o) (o ∷ [])) is
 
-pub line_in_order : (facts : List Fact) (place : ℕ) (fact : Fact) (line : LineAddr) (lines : List LineAddr) → place < length facts →
-    fact ≡ get_or facts place fact → fact.line ≡ Some line → lines ≡ firsts same_line (all_lines (take place facts)) →
+pub line_in_order : (facts : List Fact) (place : ℕ) (fact : Fact) (line : LineAddr) (lines : List LineAddr) →
+    place < length facts → fact ≡ get_or facts place fact → fact.line ≡ Some line →
+    lines ≡ firsts same_line (all_lines (take place facts)) →
     with_line line lines ≡ firsts same_line (all_lines (take (place + 1) facts))
 line_in_order facts place fact line lines below here is order =
     line_pushed (all_lines (take place facts)) line lines order
@@ -182,28 +187,44 @@ losses_below-more place after winner n =
     ∙ ap (λ (l : List Fact). losses_below place after winner n ++ l) (append-nil (f n))
 
 -- a hart more that lost
-pub loss_told : (place : ℕ) (after : ModelState) (winners : ℕ → Option ℕ) (loser winner : HartId) (line : Option LineAddr)
+pub loss_told : (place : ℕ) (after : ModelState) (winners : ℕ → Option ℕ) (loser winner : HartId)
+    (line : Option LineAddr)
     (before now later : List Fact) → now ≡ before ++ losses_below place after winners loser.number →
-    Some winner.number ≡ winners loser.number → option_map (λ (l : LineAddr). l.number) line ≡ line_waited_for after winner.number →
+    Some winner.number ≡ winners loser.number →
+    option_map (λ (l : LineAddr). l.number) line ≡ line_waited_for after winner.number →
     later ≡ now ++ record { place = place; line = line; what = Lost winner loser } ∷ [] →
     later ≡ before ++ losses_below place after winners (loser.number + 1)
 loss_told place after winners loser winner line before now later reached is waits more =
-    let told : record { place = place; line = line; what = Lost winner loser } ∷ [] ≡ loss_facts place after loser.number (winners loser.number) =
-    ap (λ l. record { place = place; line = l; what = Lost winner loser } ∷ []) (sym (line_back line) ∙ ap (option_map line_addr) waits)
-    ∙ ap (λ w. record { place = place; line = option_map line_addr (line_waited_for after winner.number); what = Lost w loser } ∷ [])
+    let told : record { place = place; line = line; what = Lost winner loser } ∷ []
+    ≡ loss_facts place after loser.number (winners loser.number) =
+    ap (λ l. record { place = place; line = l; what = Lost winner loser } ∷ [])
+    (sym (line_back line) ∙ ap (option_map line_addr) waits)
+    ∙ ap
+    (λ w. record {
+      place = place;
+      line = option_map line_addr (line_waited_for after winner.number);
+      what = Lost w loser;
+    } ∷ [])
     (sym (hart_id-of_hart winner))
-    ∙ ap (λ l. record { place = place; line = option_map line_addr (line_waited_for after winner.number); what = Lost (hart_id winner.number) l } ∷ [])
+    ∙ ap
+    (λ l. record {
+      place = place;
+      line = option_map line_addr (line_waited_for after winner.number);
+      what = Lost (hart_id winner.number) l;
+    } ∷ [])
     (sym (hart_id-of_hart loser))
     ∙ ap (loss_facts place after loser.number) is in
     more
     ∙ ap (λ t. now ++ t) told
     ∙ ap (λ l. l ++ loss_facts place after loser.number (winners loser.number)) reached
-    ∙ append_assoc before (losses_below place after winners loser.number) (loss_facts place after loser.number (winners loser.number))
+    ∙ append_assoc before (losses_below place after winners loser.number)
+    (loss_facts place after loser.number (winners loser.number))
     ∙ ap (λ l. before ++ l) (sym (losses_below-more place after winners loser.number))
 
 -- a hart more that did not
 pub none_told : (place : ℕ) (after : ModelState) (winners : ℕ → Option ℕ) (n : ℕ) (before now : List Fact) →
-    now ≡ before ++ losses_below place after winners n → winners n ≡ None → now ≡ before ++ losses_below place after winners (n + 1)
+    now ≡ before ++ losses_below place after winners n → winners n ≡ None →
+    now ≡ before ++ losses_below place after winners (n + 1)
 none_told place after winners n before now reached none =
     reached
     ∙ ap (λ l. before ++ l)
@@ -235,20 +256,22 @@ without_back state place event =
     facts_by place event.hart (asked_in state event.hart.number) (next state event).state (next state event).outcome
 
 -- what an event tells of lines, by what was asked for before it
-pub lines_told : (before after : Story) (event : Event) (outcome : Outcome) (place : ℕ) (asked : Option Asking) (old later : List Fact) →
-    after ≡ continued before (event ∷ []) → outcome ≡ (next (state_of before) event).outcome → place ≡ length before.entries →
-    (event.kind ≡ kinds.Serve → asked ≡ asked_in (state_of before) event.hart.number) →
+pub lines_told : (before after : Story) (event : Event) (outcome : Outcome) (place : ℕ) (asked : Option Asking)
+    (old later : List Fact) → after ≡ continued before (event ∷ []) → outcome ≡ (next (state_of before) event).outcome →
+    place ≡ length before.entries → (event.kind ≡ kinds.Serve → asked ≡ asked_in (state_of before) event.hart.number) →
     later ≡ old ++ facts_by place event.hart asked (state_of after) outcome →
     later ≡ old ++ without_back (state_of before) (length before.entries) event
 lines_told before after event outcome place asked old later goes told at was is =
-    let new : state_of after ≡ (next (state_of before) event).state = ap state_of goes ∙ state_of_continued before (event ∷ []) in
+    let new : state_of after ≡ (next (state_of before) event).state =
+    ap state_of goes ∙ state_of_continued before (event ∷ []) in
     let now = (next (state_of before) event).state in
     is
     ∙ ap (λ s. old ++ facts_by place event.hart asked s outcome) new
     ∙ ap (λ o. old ++ facts_by place event.hart asked now o) told
     ∙ ap (λ p. old ++ facts_by p event.hart asked now (next (state_of before) event).outcome) at
     ∙ ap (λ l. old ++ l)
-    (facts_by-same (length before.entries) event.hart asked (asked_in (state_of before) event.hart.number) now (next (state_of before) event).outcome
+    (facts_by-same (length before.entries) event.hart asked (asked_in (state_of before) event.hart.number) now
+    (next (state_of before) event).outcome
     (λ losers freed served. was (served_is_serve (state_of before) event losers freed served)))
 
 -- what would leave a hart's cache, as the machine shows it
@@ -259,7 +282,8 @@ pub leaving_told : (bus : BusState) (state : ModelState) (sets : Slotted) (h lin
 leaving_told bus state sets h line shows is below =
     let there : h < length state.harts = subst (λ n. h < n) shows.agent_each below in
     ap (λ (c : Slotted). if_dirty c.residency (leaving_line c.ways c.residency line)) is
-    ∙ ap (λ w. if_dirty (slotted_at bus.copies.caches h).residency (leaving_line w (slotted_at bus.copies.caches h).residency line)) (shows.ways h there)
+    ∙ ap (λ w. if_dirty (slotted_at bus.copies.caches h).residency
+    (leaving_line w (slotted_at bus.copies.caches h).residency line)) (shows.ways h there)
     ∙ ap (λ r. if_dirty r (leaving_line state.config.ways r line)) (shows.caches h)
 
 -- where nothing was served, nothing is written back
@@ -284,8 +308,8 @@ back_is state event back was =
     (λ losers freed served. let serves = served_is_serve state event losers freed served in (serves, was serves))
 
 -- what an event tells of lines, with the one that it writes back
-pub back_told : (before : Story) (event : Event) (outcome : Outcome) (place : ℕ) (back : Option ℕ) (old now later : List Fact) →
-    outcome ≡ (next (state_of before) event).outcome → place ≡ length before.entries →
+pub back_told : (before : Story) (event : Event) (outcome : Outcome) (place : ℕ) (back : Option ℕ)
+    (old now later : List Fact) → outcome ≡ (next (state_of before) event).outcome → place ≡ length before.entries →
     (event.kind ≡ kinds.Serve →
     back ≡ back_for (state_of before) event.hart.number (ordered_of (state_of before) event.hart.number)) →
     now ≡ old ++ without_back (state_of before) (length before.entries) event →
@@ -298,17 +322,20 @@ back_told before event outcome place back old now later told at was is more =
     ∙ append_assoc old facts (back_facts place event.hart (if_served outcome back))
     ∙ ap (λ p. old ++ (facts ++ back_facts p event.hart (if_served outcome back))) at
     ∙ ap (λ o. old ++ (facts ++ back_facts (length before.entries) event.hart (if_served o back))) told
-    ∙ ap (λ b. old ++ (facts ++ back_facts (length before.entries) event.hart b)) (back_is (state_of before) event back was)
+    ∙ ap (λ b. old ++ (facts ++ back_facts (length before.entries) event.hart b))
+    (back_is (state_of before) event back was)
 
 -- a change of owner, told
 pub owner_told : (place : ℕ) (line : LineAddr) (from to : Option HartId) →
     same_owner (option_map (λ (h : HartId). h.number) from) (option_map (λ (h : HartId). h.number) to) ≡ false →
     record { place = place; line = Some line; what = Owner from to } ∷ []
-    ≡ owner_facts place line.number (option_map (λ (h : HartId). h.number) from) (option_map (λ (h : HartId). h.number) to)
+    ≡ owner_facts place line.number (option_map (λ (h : HartId). h.number) from)
+    (option_map (λ (h : HartId). h.number) to)
 owner_told place line from to other =
     let number : HartId → ℕ = λ h. h.number in
     ap (λ o. record { place = place; line = Some line; what = Owner o to } ∷ []) (sym (owner_back from))
-    ∙ ap (λ o. record { place = place; line = Some line; what = Owner (option_map hart_id (option_map number from)) o } ∷ []) (sym (owner_back to))
+    ∙ ap (λ o. record { place = place; line = Some line; what = Owner (option_map hart_id (option_map number from)) o }
+    ∷ []) (sym (owner_back to))
     ∙ ap (λ l. record {
       place = place;
       line = Some l;

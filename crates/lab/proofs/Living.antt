@@ -1,5 +1,6 @@
 -- the sections that are live in the list are those of the state
-use Rattle.std.proofs.Common.{◌≡◌, ◌≢◌, ℕ, ◌∙◌, ◌==◌, ◌⊎◌, inl, inr, true, false, Bool, cond, List, [], Option, Some, None, map, refl, ap}
+use Rattle.std.proofs.Common.{◌≡◌, ◌≢◌, ℕ, ◌∙◌, ◌==◌, ◌⊎◌, inl, inr, true, false, Bool, cond, List, [], Option, Some}
+use Rattle.std.proofs.Common.{None, map, refl, ap}
 use Rattle.std.specs.Prelude.{IsSome, is_some}
 use Rattle.std.proofs.lemmas.List.Elements.{All-append, All-map, All-nil, All-cons, All-weaker}
 use Rattle.el_base.specs.Winners.{winner_over}
@@ -15,7 +16,8 @@ use Rattle.el_model.specs.Next.{next}
 use Rattle.el_model.specs.Plain.{Begins}
 use Rattle.el_model.specs.State.{Armed, ModelState, Section, is_live, section_of}
 use Rattle.el_model.specs.Upcoming.{Swap}
-use Rattle.lab.specs.Tries.{AreLive, HasNone, Moment, begun_as, end_in, ended_by, first_end, lost_end, moment_of, noted, of_section, own_end, ran_in}
+use Rattle.lab.specs.Tries.{AreLive, HasNone, Moment, begun_as, end_in, ended_by, first_end, lost_end, moment_of, noted}
+use Rattle.lab.specs.Tries.{of_section, own_end, ran_in}
 use Rattle.lab.specs.declared.tries.Ended.{Ended}
 use Rattle.lab.specs.declared.tries.Ended.TheVariants.{Live, Committed, LostTo, RolledBack}
 use Rattle.lab.specs.declared.tries.Try.{Try}
@@ -35,7 +37,8 @@ live_later (Committed at count) b live = absurd cc
 live_later (LostTo at ran winner line) b live = absurd cc
 live_later (RolledBack at ran cause) b live = absurd cc
 
--- what an outcome leaves live of its own hart's section is no commit and no rollback, and what it leaves of a loser's none at all
+-- what an outcome leaves live of its own hart's section is no commit and no rollback, and what it
+-- leaves of a loser's none at all
 no_commit : (place ran : ℕ) (outcome : Outcome) → own_end place ran outcome ≡ Live → is_committed outcome ≡ false
 no_commit place ran (outcomes.Committed count) live = absurd cc
 no_commit place ran _ live = refl
@@ -44,7 +47,8 @@ no_rollback : (place ran : ℕ) (outcome : Outcome) → own_end place ran outcom
 no_rollback place ran (outcomes.RolledBack cause) live = absurd cc
 no_rollback place ran _ live = refl
 
-no_winner : (place ran : ℕ) (after : ModelState) (winner : Option ℕ) → lost_end place ran after winner ≡ Live → IsSome winner → ⊥
+no_winner : (place ran : ℕ) (after : ModelState) (winner : Option ℕ) → lost_end place ran after winner ≡ Live →
+    IsSome winner → ⊥
 no_winner place ran after None live some = cc
 no_winner place ran after (Some winner) live some = cc
 
@@ -75,7 +79,8 @@ module _ (state : ModelState) (place : ℕ) (event : Event) where
       absurd_of : {b : Bool} → b ≡ false → b ≡ true → ⊥
       absurd_of dead alive = cc
   not_ended h live (inr some) =
-      no_winner place (ran_in state h) (next state event).state (winner_over (next state event).outcome h) (live_later _ _ live) some
+      no_winner place (ran_in state h) (next state event).state (winner_over (next state event).outcome h)
+      (live_later _ _ live) some
 
   by_live : (h : ℕ) (b : Bool) → is_live (next state event).state h ≡ b →
       (b ≡ false → ⊥) → is_live (next state event).state h ≡ true
@@ -83,7 +88,8 @@ module _ (state : ModelState) (place : ℕ) (event : Event) where
   by_live h false is not = absurd (not refl)
 
   stays_live : EndsAreTold → (try : Try) → (try.ended ≡ Live → is_live state try.hart.number ≡ true) →
-      (ended_by (moment_of state place event) try).ended ≡ Live → is_live (next state event).state try.hart.number ≡ true
+      (ended_by (moment_of state place event) try).ended ≡ Live →
+      is_live (next state event).state try.hart.number ≡ true
   stays_live told try was live =
       let h = try.hart.number in
       by_live h (is_live (next state event).state h) refl
@@ -94,7 +100,8 @@ module _ (state : ModelState) (place : ℕ) (event : Event) where
   one_live hart None is = All-nil (λ try. try.ended ≡ Live → is_live (next state event).state try.hart.number ≡ true)
   one_live hart (Some section) is =
       All-cons (λ try. try.ended ≡ Live → is_live (next state event).state try.hart.number ≡ true) _ []
-      (λ live. ap is_some is) (All-nil (λ try. try.ended ≡ Live → is_live (next state event).state try.hart.number ≡ true))
+      (λ live. ap is_some is)
+      (All-nil (λ try. try.ended ≡ Live → is_live (next state event).state try.hart.number ≡ true))
 
   begun_live : (outcome : Outcome) (tries : List Try) → AreLive (next state event).state tries →
       AreLive (next state event).state (begun_as outcome tries)

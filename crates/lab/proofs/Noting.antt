@@ -1,5 +1,6 @@
 -- noting one event
-use Rattle.std.proofs.Common.{◌≡◌, ◌∙◌, ℕ, ◌+◌, ◌<◌, ◌==◌, nat_lt, Bool, true, false, cond, List, [], ◌∷◌, ◌++◌, Option, Some, None, map, refl, ap, sym, arith}
+use Rattle.std.proofs.Common.{◌≡◌, ◌∙◌, ℕ, ◌+◌, ◌<◌, ◌==◌, nat_lt, Bool, true, false, cond, List, [], ◌∷◌, ◌++◌, Option}
+use Rattle.std.proofs.Common.{Some, None, map, refl, ap, sym, arith}
 use Rattle.std.specs.Option.{option_map}
 use Rattle.std.proofs.lemmas.Bool.Decides.{nat_tests}
 use Rattle.std.proofs.lemmas.List.{append-nil}
@@ -14,7 +15,8 @@ use Rattle.el_base.specs.declared.events.Event.{Event}
 use Rattle.el_base.specs.declared.outcomes.Outcome.{Outcome}
 use Rattle.el_model.specs.State.{ModelState, Section}
 use Rattle.lab.proofs.Ends.{first_end-live}
-use Rattle.lab.specs.Tries.{Moment, begun_as, begun_in, end_in, ended_by, ended_for, first_end, line_waited_for, lost_by, lost_end, noted, of_section, own_end}
+use Rattle.lab.specs.Tries.{Moment, begun_as, begun_in, end_in, ended_by, ended_for, first_end, line_waited_for}
+use Rattle.lab.specs.Tries.{lost_by, lost_end, noted, of_section, own_end}
 use Rattle.lab.specs.declared.tries.Ended.{Ended}
 use Rattle.lab.specs.declared.tries.Ended.TheVariants.{Live, LostTo}
 use Rattle.lab.specs.declared.tries.Try.{Try}
@@ -31,9 +33,11 @@ pub map_still : (f : Try → Try) → ((try : Try) → f try ≡ try) → (tries
 map_still f same [] = refl
 map_still f same (try ∷ tries) = ap (λ t. t ∷ map f tries) (same try) ∙ ap (λ ts. try ∷ ts) (map_still f same tries)
 
-pub map_twice : (f g h : Try → Try) → ((try : Try) → f (g try) ≡ h try) → (tries : List Try) → map f (map g tries) ≡ map h tries
+pub map_twice : (f g h : Try → Try) → ((try : Try) → f (g try) ≡ h try) → (tries : List Try) →
+    map f (map g tries) ≡ map h tries
 map_twice f g h same [] = refl
-map_twice f g h same (try ∷ tries) = ap (λ t. t ∷ map f (map g tries)) (same try) ∙ ap (λ ts. h try ∷ ts) (map_twice f g h same tries)
+map_twice f g h same (try ∷ tries) =
+    ap (λ t. t ∷ map f (map g tries)) (same try) ∙ ap (λ ts. h try ∷ ts) (map_twice f g h same tries)
 
 either_live : (b : Bool) → cond b Live Live ≡ Live
 either_live true = refl
@@ -44,7 +48,9 @@ module _ (moment : Moment) (unlost : (h : ℕ) → winner_over moment.outcome h 
   end_own : (h : ℕ) →
       end_in moment h ≡ cond (moment.event.hart.number == h) (own_end moment.place (moment.ran h) moment.outcome) Live
   end_own h =
-      ap (λ winner. first_end (cond (moment.event.hart.number == h) (own_end moment.place (moment.ran h) moment.outcome) Live)
+      ap
+      (λ winner.
+      first_end (cond (moment.event.hart.number == h) (own_end moment.place (moment.ran h) moment.outcome) Live)
       (lost_end moment.place (moment.ran h) moment.after winner)) (unlost h)
       ∙ first_end-live (cond (moment.event.hart.number == h) (own_end moment.place (moment.ran h) moment.outcome) Live)
 
@@ -56,8 +62,15 @@ module _ (moment : Moment) (unlost : (h : ℕ) → winner_over moment.outcome h 
       ∙ ap (λ ended. record try { ended = first_end try.ended ended }) (sym (end_own try.hart.number))
     where
       by : (b : Bool) → (moment.event.hart.number == try.hart.number) ≡ b →
-          cond b (record try { ended = first_end try.ended (own_end moment.place (moment.ran moment.event.hart.number) moment.outcome) }) try
-          ≡ record try { ended = first_end try.ended (cond b (own_end moment.place (moment.ran try.hart.number) moment.outcome) Live) }
+          cond b
+          (record try {
+            ended = first_end try.ended
+                (own_end moment.place (moment.ran moment.event.hart.number) moment.outcome);
+          }) try
+          ≡ record try {
+            ended = first_end try.ended
+                (cond b (own_end moment.place (moment.ran try.hart.number) moment.outcome) Live);
+          }
       by true e =
           let same : moment.event.hart.number ≡ try.hart.number = grind (arith, nat_tests) in
           ap (λ h. record try { ended = first_end try.ended (own_end moment.place (moment.ran h) moment.outcome) }) same
@@ -73,7 +86,8 @@ module _ (moment : Moment) (unlost : (h : ℕ) → winner_over moment.outcome h 
       ∙ sym (append-nil (map (ended_by moment) tries))
       ∙ ap (λ begun. map (ended_by moment) tries ++ begun) (sym (begins _))
 
-  still : ((h : ℕ) → own_end moment.place (moment.ran h) moment.outcome ≡ Live) → (try : Try) → ended_by moment try ≡ try
+  still : ((h : ℕ) → own_end moment.place (moment.ran h) moment.outcome ≡ Live) → (try : Try) →
+      ended_by moment try ≡ try
   still lives try =
       ap (λ ended. record try { ended = first_end try.ended ended })
       (end_own try.hart.number
@@ -88,9 +102,9 @@ module _ (moment : Moment) (unlost : (h : ℕ) → winner_over moment.outcome h 
       ap (λ list. list ++ begun_in moment Live) (sym (map_still (ended_by moment) (still lives) tries))
 
 -- one that begins and ends nothing
-pub noted_nothing : (place : ℕ) (ran : ℕ → ℕ) (event : Event) (after : ModelState) (tries : List Try) (outcome known : Outcome) →
-    outcome ≡ known → ((h : ℕ) → winner_over known h ≡ None) → ((h : ℕ) → own_end place (ran h) known ≡ Live) →
-    ((begun : List Try) → begun_as known begun ≡ []) →
+pub noted_nothing : (place : ℕ) (ran : ℕ → ℕ) (event : Event) (after : ModelState) (tries : List Try)
+    (outcome known : Outcome) → outcome ≡ known → ((h : ℕ) → winner_over known h ≡ None) →
+    ((h : ℕ) → own_end place (ran h) known ≡ Live) → ((begun : List Try) → begun_as known begun ≡ []) →
     tries ≡ noted (record { place = place; ran = ran; event = event; outcome = outcome; after = after }) tries
 noted_nothing place ran event after tries outcome known is unlost lives begins =
     let of : Outcome → Moment = λ o. record { place = place; ran = ran; event = event; outcome = o; after = after } in
@@ -115,7 +129,8 @@ noted_losses moment winner tries winners lives begins =
         let h = try.hart.number in
         let lost = lost_end moment.place (moment.ran h) moment.after (winner h) in
         ap (λ own. record try { ended = first_end try.ended (first_end own lost) })
-        (sym (ap (λ ended. cond (moment.event.hart.number == h) ended Live) (lives h) ∙ either_live (moment.event.hart.number == h)))
+        (sym (ap (λ ended. cond (moment.event.hart.number == h) ended Live) (lives h)
+        ∙ either_live (moment.event.hart.number == h)))
         ∙ ap (λ w. record try {
           ended = first_end try.ended (first_end
               (cond (moment.event.hart.number == h) (own_end moment.place (moment.ran h) moment.outcome) Live)
@@ -128,7 +143,8 @@ lost_below place ran after winner k try =
     cond (nat_lt try.hart.number k) (lost_by place ran after winner try) try
 
 module _ (place : ℕ) (ran : ℕ → ℕ) (after : ModelState) (winner : ℕ → Option ℕ) where
-  lost_here : (k : ℕ) (try : Try) → ended_for k (lost_end place (ran k) after (winner k)) (lost_below place ran after winner k try)
+  lost_here : (k : ℕ) (try : Try) →
+      ended_for k (lost_end place (ran k) after (winner k)) (lost_below place ran after winner k try)
       ≡ lost_below place ran after winner (k + 1) try
   lost_here k try = by (nat_lt try.hart.number k) (nat_lt try.hart.number (k + 1)) (k == try.hart.number) refl refl refl
     where
@@ -148,7 +164,8 @@ module _ (place : ℕ) (ran : ℕ → ℕ) (after : ModelState) (winner : ℕ �
           ∙ ap (λ h. record try { ended = first_end try.ended (lost_end place (ran h) after (winner h)) }) is
       by false true false a b c = absurd (grind (arith, nat_tests))
       by false false true a b c = absurd (grind (arith, nat_tests))
-      by false false false a b c = ap (λ t. cond t (record try { ended = first_end try.ended (lost_end place (ran k) after (winner k)) }) try) c
+      by false false false a b c =
+          ap (λ t. cond t (record try { ended = first_end try.ended (lost_end place (ran k) after (winner k)) }) try) c
 
   pub loser_passed : (k : ℕ) (before now later : List Try) → now ≡ map (lost_below place ran after winner k) before →
       later ≡ map (ended_for k (lost_end place (ran k) after (winner k))) now →
@@ -163,14 +180,16 @@ module _ (place : ℕ) (ran : ℕ → ℕ) (after : ModelState) (winner : ℕ �
       by true = ap (λ ended. record try { ended = ended }) (first_end-live try.ended)
       by false = refl
 
-  pub winner_passed : (k : ℕ) (before now : List Try) → now ≡ map (lost_below place ran after winner k) before → winner k ≡ None →
-      now ≡ map (lost_below place ran after winner (k + 1)) before
+  pub winner_passed : (k : ℕ) (before now : List Try) → now ≡ map (lost_below place ran after winner k) before →
+      winner k ≡ None → now ≡ map (lost_below place ran after winner (k + 1)) before
   winner_passed k before now is none =
       loser_passed k before now now is
-      (sym (ap (λ w. map (ended_for k (lost_end place (ran k) after w)) now) none ∙ map_still (ended_for k Live) (ended_live k) now))
+      (sym (ap (λ w. map (ended_for k (lost_end place (ran k) after w)) now) none
+      ∙ map_still (ended_for k Live) (ended_live k) now))
 
   pub none_lost : (before : List Try) → before ≡ map (lost_below place ran after winner 0) before
-  none_lost before = sym (map_still (lost_below place ran after winner 0) (λ try. by try (nat_lt try.hart.number 0) refl) before)
+  none_lost before =
+      sym (map_still (lost_below place ran after winner 0) (λ try. by try (nat_lt try.hart.number 0) refl) before)
     where
       by : (try : Try) (b : Bool) → nat_lt try.hart.number 0 ≡ b → cond b (lost_by place ran after winner try) try ≡ try
       by try true e = absurd (grind (arith, nat_tests))
@@ -182,7 +201,8 @@ module _ (place : ℕ) (ran : ℕ → ℕ) (after : ModelState) (winner : ℕ �
       is ∙ ap (λ n. map (lost_below place ran after winner n) before) whole
       ∙ map_same _ _ (λ try. by try (nat_lt try.hart.number 8) refl) before
     where
-      by : (try : Try) (b : Bool) → nat_lt try.hart.number 8 ≡ b → cond b (lost_by place ran after winner try) try ≡ lost_by place ran after winner try
+      by : (try : Try) (b : Bool) → nat_lt try.hart.number 8 ≡ b →
+          cond b (lost_by place ran after winner try) try ≡ lost_by place ran after winner try
       by try true e = refl
       by try false e = let small : try.hart.number < 8 = try.hart.small in absurd (grind (arith, nat_tests))
 
@@ -206,9 +226,9 @@ unbeaten None beaten is none = sym is
 unbeaten (Some winner) beaten is none = absurd (none winner refl)
 
 -- a section that began, told
-pub begun_is : (after : ModelState) (place : ℕ) (hart : HartId) (live : lives.Live) (view : HartView) (section : Option Section) →
-    option_map sections.section_of (Some live) ≡ section → view ≡ view_of after.committed hart.number →
-    record {
+pub begun_is : (after : ModelState) (place : ℕ) (hart : HartId) (live : lives.Live) (view : HartView)
+    (section : Option Section) → option_map sections.section_of (Some live) ≡ section →
+    view ≡ view_of after.committed hart.number → record {
       hart = hart;
       acquire = record { pc = view.pc; word = live.word };
       old = live.old;

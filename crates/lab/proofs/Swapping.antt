@@ -33,7 +33,8 @@ use Rattle.step_rules.specs.Actions.{IsNext, swap_over}
 use Rattle.step_rules.specs.declared.upcoming.Exchange.{Exchange}
 
 -- what is told counts only where an instruction ran
-pub if_ran-same : (outcome : Outcome) (a b : Option PlainSwap) → (outcome ≡ outcomes.Ran → a ≡ b) → if_ran outcome a ≡ if_ran outcome b
+pub if_ran-same : (outcome : Outcome) (a b : Option PlainSwap) → (outcome ≡ outcomes.Ran → a ≡ b) →
+    if_ran outcome a ≡ if_ran outcome b
 if_ran-same outcomes.Ran a b same = ap (if_ran outcomes.Ran) (same refl)
 if_ran-same _ a b same = refl
 
@@ -60,9 +61,9 @@ pub next_is : (state : ModelState) (h : ℕ) (action : Action) → action ≡ ac
 next_is state h action is none unarmed = is ∙ ap (action_of state.committed) (shown_is state h none unarmed)
 
 -- a swap's word is in memory
-pub place_is : (state : ModelState) (h : ℕ) (action : Action) (exchange : Exchange) (span : Span) (room : ℕ) → IsNext action state.committed h →
-    Some (swap_over (byte_in state.committed.base state.committed.bytes) exchange) ≡ model.next_swap state.committed h →
-    IsInPlace span room action → IsPiece span exchange.word 4
+pub place_is : (state : ModelState) (h : ℕ) (action : Action) (exchange : Exchange) (span : Span) (room : ℕ) →
+    IsNext action state.committed h → Some (swap_over (byte_in state.committed.base state.committed.bytes) exchange)
+    ≡ model.next_swap state.committed h → IsInPlace span room action → IsPiece span exchange.word 4
 place_is state h action exchange span room next found in_place =
     let byte = byte_in state.committed.base state.committed.bytes in
     let of = swap_action byte action (swap_over byte exchange) (next_swap action state.committed h next ∙ sym found) in
@@ -70,7 +71,8 @@ place_is state h action exchange span room next found in_place =
 
 -- a swap, told
 pub plain_is : (story : Story) (place : ℕ) (hart : HartId) (exchange : Exchange) (old pc : ℕ) (why : NotElided) →
-    IsOneRun story → Some (swap_over (byte_in (state_of story).committed.base (state_of story).committed.bytes) exchange)
+    IsOneRun story →
+    Some (swap_over (byte_in (state_of story).committed.base (state_of story).committed.bytes) exchange)
     ≡ model.next_swap (state_of story).committed hart.number →
     old ≡ loaded (byte_in story.program.base (committed story).bytes) exchange.word 4 →
     pc ≡ (view_of (state_of story).committed hart.number).pc → why ≡ why_not (state_of story) hart.number →
@@ -105,17 +107,18 @@ plain_is story place hart exchange old pc why one_run found read at not =
     })
 
 -- the swap that an event runs, by what was next before it
-pub swap_told : (before : Story) (event : Event) (outcome : Outcome) (swap : Option PlainSwap) (old later : List PlainSwap) →
-    outcome ≡ (next (state_of before) event).outcome →
+pub swap_told : (before : Story) (event : Event) (outcome : Outcome) (swap : Option PlainSwap)
+    (old later : List PlainSwap) → outcome ≡ (next (state_of before) event).outcome →
     (event.kind ≡ kinds.Step → section_of (state_of before) event.hart.number ≡ None →
     armed_of (state_of before) event.hart.number ≡ None →
-    swap ≡ next_plain (state_of before) (length before.entries) event.hart) →
-    later ≡ old ++ if_ran outcome swap → later ≡ old ++ swaps_in (state_of before) (length before.entries) event
+    swap ≡ next_plain (state_of before) (length before.entries) event.hart) → later ≡ old ++ if_ran outcome swap →
+    later ≡ old ++ swaps_in (state_of before) (length before.entries) event
 swap_told before event outcome swap old later told was is =
     is
     ∙ ap (λ o. old ++ if_ran o swap) told
     ∙ ap (λ l. old ++ l)
-    (if_ran-same (next (state_of before) event).outcome swap (next_plain (state_of before) (length before.entries) event.hart)
+    (if_ran-same (next (state_of before) event).outcome swap
+    (next_plain (state_of before) (length before.entries) event.hart)
     (λ ran. let outside = ran_outside (state_of before) event ran in was outside.0 outside.1 outside.2))
 
 -- the configuration stays
@@ -126,9 +129,10 @@ config_is story =
     (begin story.program story.config) (events story.entries) refl
 
 -- why a hart's next swap is not elided, by what the machine shows of it
-pub why_told : (story : Story) (h : ℕ) (config : Config) (own : OwnState) (fallback : Bool) (confidence pc : ℕ) → config ≡ story.config →
-    HasOwn own (hart_of (state_of story) h) → fallback ≡ own.fallback → confidence ≡ confidence_of own.predictor pc →
-    pc ≡ (view_of (state_of story).committed h).pc → first_no config.mode fallback confidence ≡ why_not (state_of story) h
+pub why_told : (story : Story) (h : ℕ) (config : Config) (own : OwnState) (fallback : Bool) (confidence pc : ℕ) →
+    config ≡ story.config → HasOwn own (hart_of (state_of story) h) → fallback ≡ own.fallback →
+    confidence ≡ confidence_of own.predictor pc → pc ≡ (view_of (state_of story).committed h).pc →
+    first_no config.mode fallback confidence ≡ why_not (state_of story) h
 why_told story h config own fallback confidence pc configured has falls trusted at =
     let hart = hart_of (state_of story) h in
     ap (λ (k : Config). first_no k.mode fallback confidence) (configured ∙ sym (config_is story))

@@ -1,5 +1,6 @@
 -- what a story tells, event by event
-use Rattle.std.proofs.Common.{◌≡◌, ◌∙◌, ℕ, ◌+◌, ◌<◌, List, [], ◌∷◌, ◌++◌, length, take, get_or, ap, sym, arith, add-zero, append_assoc, length-append}
+use Rattle.std.proofs.Common.{◌≡◌, ◌∙◌, ℕ, ◌+◌, ◌<◌, List, [], ◌∷◌, ◌++◌, length, take, get_or, ap, sym, arith}
+use Rattle.std.proofs.Common.{add-zero, append_assoc, length-append}
 use Rattle.std.proofs.lemmas.List.{append-nil, take_more}
 use Rattle.el_base.specs.declared.events.Event.{Event}
 use Rattle.el_model.proofs.Laws.Folds.{length-entries_from}
@@ -11,15 +12,17 @@ use Rattle.machine.specs.Story.{Story, continued, state_of}
 
 module _ {X : Type 0} (tells : ModelState → ℕ → Event → List X) where
   -- one event more, at the place behind the others
-  pub told_from-push : (state : ModelState) (place here : ℕ) (events : List Event) (event : Event) → here ≡ place + length events →
-      told_from tells state place (events ++ event ∷ []) ≡ told_from tells state place events ++ tells (state_after state events) here event
+  pub told_from-push : (state : ModelState) (place here : ℕ) (events : List Event) (event : Event) →
+      here ≡ place + length events → told_from tells state place (events ++ event ∷ [])
+      ≡ told_from tells state place events ++ tells (state_after state events) here event
   told_from-push state place here [] event at =
       append-nil (tells state place event) ∙ ap (λ p. tells state p event) (sym (at ∙ add-zero place))
   told_from-push state place here (first ∷ events) event at =
       let after = (next state first).state in
       let behind : here ≡ (place + 1) + length events = omega arith in
       ap (λ told. tells state place first ++ told) (told_from-push after (place + 1) here events event behind)
-      ∙ sym (append_assoc (tells state place first) (told_from tells after (place + 1) events) (tells (state_after after events) here event))
+      ∙ sym (append_assoc (tells state place first) (told_from tells after (place + 1) events)
+      (tells (state_after after events) here event))
 
   -- one event more of a list
   pub told_more : (before now : Story) (events : List Event) (k : ℕ) (event : Event) (told later : List X) →

@@ -1,10 +1,12 @@
 -- which sections are live, as one ends and as one begins
-use Rattle.std.proofs.Common.{◌≡◌, ◌≢◌, ◌∙◌, ℕ, ◌+◌, ◌<◌, ◌==◌, ◌⊎◌, inl, inr, Bool, true, false, cond, List, [], ◌∷◌, ◌++◌, Option, Some, None}
+use Rattle.std.proofs.Common.{◌≡◌, ◌≢◌, ◌∙◌, ℕ, ◌+◌, ◌<◌, ◌==◌, ◌⊎◌, inl, inr, Bool, true, false, cond, List, [], ◌∷◌}
+use Rattle.std.proofs.Common.{◌++◌, Option, Some, None}
 use Rattle.std.proofs.Common.{length, map, set, get_or, refl, ap, sym, subst, eq-eqb, arith, length-set}
 use Rattle.std.proofs.lemmas.Bool.{cases_lt}
 use Rattle.std.proofs.lemmas.Bool.Decides.{nat_tests}
 use Rattle.std.proofs.lemmas.Grind.{get_or-set_at}
-use Rattle.std.proofs.lemmas.List.{ext_get_or, get_or-map, get_or-set_other, get_or_append_left, get_or_push, length-map, length_push}
+use Rattle.std.proofs.lemmas.List.{ext_get_or, get_or-map, get_or-set_other, get_or_append_left, get_or_push}
+use Rattle.std.proofs.lemmas.List.{length-map, length_push}
 use Rattle.el_base.specs.declared.config.TheConstants.{MAX_STEPS}
 use Rattle.lab.specs.Tracked.{Tracks, live_at, no_try, try_at}
 use Rattle.lab.specs.Tries.{HasNone, ended_for, first_end}
@@ -37,7 +39,8 @@ ended_live h ended try own live =
     ap (λ b. cond b (record try { ended = first_end try.ended ended }) try) (eq-eqb h try.hart.number (sym own))
     ∙ ap (λ e. record try { ended = first_end e ended }) live
 
-ended_other : (h : ℕ) (ended : Ended) (try : Try) → (try.hart.number ≡ h → try.ended ≢ Live) → ended_for h ended try ≡ try
+ended_other : (h : ℕ) (ended : Ended) (try : Try) → (try.hart.number ≡ h → try.ended ≢ Live) →
+    ended_for h ended try ≡ try
 ended_other h ended try other = by (h == try.hart.number) refl
   where
     by : (b : Bool) → (h == try.hart.number) ≡ b → cond b (record try { ended = first_end try.ended ended }) try ≡ try
@@ -68,7 +71,8 @@ module _ (tries : List Try) (live : List (Option ℕ)) (h : ℕ) (tracks : Track
           ≡ get_or (map (ended_for h ended) tries) k no_try
       at k below =
           elim (equal_or k place) [
-            | inl same ↦ get_or-set_at tries place k (record (try_at tries place) { ended = ended }) no_try same (tracks.there h place here)
+            | inl same ↦ get_or-set_at tries place k (record (try_at tries place) { ended = ended }) no_try same
+                (tracks.there h place here)
                 ∙ sym (ended_live h ended (try_at tries place) (tracks.own h place here) (tracks.lives h place here))
                 ∙ ap (λ p. ended_for h ended (try_at tries p)) (sym same)
                 ∙ sym (get_or-map (ended_for h ended) tries k no_try no_try below)
@@ -107,7 +111,8 @@ module _ (tries : List Try) (live : List (Option ℕ)) (h : ℕ) (tracks : Track
       changed : Try
       changed = record (try_at tries place) { ended = ended }
 
-      same : (p : ℕ) → p ≢ place → try_at (set tries place (record (try_at tries place) { ended = ended })) p ≡ try_at tries p
+      same : (p : ℕ) → p ≢ place → try_at (set tries place (record (try_at tries place) { ended = ended })) p
+          ≡ try_at tries p
       same p other = get_or-set_other tries place p (record (try_at tries place) { ended = ended }) no_try other
 
       -- another hart's is as it was
@@ -118,13 +123,18 @@ module _ (tries : List Try) (live : List (Option ℕ)) (h : ℕ) (tracks : Track
                 let none : Some p ≡ None = sym e ∙ get_or-set_at live h g None None is within in
                 absurd cc
             | inr other ↦
-                let old : live_at live g ≡ Some p = sym (get_or-set_other live h g None None other) ∙ e in
-                (old, other, λ at. other (sym (tracks.own g p old) ∙ ap (λ k. (try_at tries k).hart.number) at ∙ tracks.own h place here))
+                let old : live_at live g ≡ Some p = sym (get_or-set_other live h g None None other) ∙ e in (
+                  old,
+                  other,
+                  λ at. other (sym (tracks.own g p old) ∙ ap (λ k. (try_at tries k).hart.number) at
+                      ∙ tracks.own h place here),
+                )
           ]
 
       found : (p : ℕ) → p < length tries →
           (try_at (set tries place (record (try_at tries place) { ended = ended })) p).ended ≡ Live →
-          live_at (set live h None) (try_at (set tries place (record (try_at tries place) { ended = ended })) p).hart.number ≡ Some p
+          live_at (set live h None)
+          (try_at (set tries place (record (try_at tries place) { ended = ended })) p).hart.number ≡ Some p
       found p below is =
           elim (equal_or p place) [
             | inl at ↦ absurd (over
@@ -132,7 +142,8 @@ module _ (tries : List Try) (live : List (Option ℕ)) (h : ℕ) (tracks : Track
                 no_try at (tracks.there h place here))) ∙ is))
             | inr other ↦
                 let live_there : (try_at tries p).ended ≡ Live = sym (ap (λ t. t.ended) (same p other)) ∙ is in
-                let apart : (try_at tries p).hart.number ≢ h = λ own. others_over place p here below other own live_there in
+                let apart : (try_at tries p).hart.number ≢ h =
+                λ own. others_over place p here below other own live_there in
                 ap (λ t. live_at (set live h None) t.hart.number) (same p other)
                 ∙ get_or-set_other live h (try_at tries p).hart.number None None apart
                 ∙ tracks.all p below live_there
@@ -172,7 +183,8 @@ tracks_push tries live begun tracks lives none within room = record {
     old : (p : ℕ) → p < length tries → try_at (tries ++ begun ∷ []) p ≡ try_at tries p
     old p below = get_or_append_left tries (begun ∷ []) no_try p below
 
-    there : (g p : ℕ) → live_at (set live begun.hart.number (Some (length tries))) g ≡ Some p → p < length (tries ++ begun ∷ [])
+    there : (g p : ℕ) → live_at (set live begun.hart.number (Some (length tries))) g ≡ Some p →
+        p < length (tries ++ begun ∷ [])
     there g p e =
         elim (cases g p e) [
           | inl (is, at) ↦ omega (arith, longer)
@@ -201,7 +213,8 @@ tracks_push tries live begun tracks lives none within room = record {
         elim (cases_lt p (length tries)) [
           | inl inside ↦
               let live_there : (try_at tries p).ended ≡ Live = sym (ap (λ t. t.ended) (old p inside)) ∙ is in
-              let apart : (try_at tries p).hart.number ≢ begun.hart.number = λ same. none p no_try inside same live_there in
+              let apart : (try_at tries p).hart.number ≢ begun.hart.number =
+              λ same. none p no_try inside same live_there in
               ap (λ t. live_at (set live begun.hart.number (Some (length tries))) t.hart.number) (old p inside)
               ∙ get_or-set_other live begun.hart.number (try_at tries p).hart.number (Some (length tries)) None apart
               ∙ tracks.all p inside live_there

@@ -1,5 +1,6 @@
 -- the last entry by which something of a hart took effect
-use Rattle.std.proofs.Common.{◌≡◌, ◌∙◌, ℕ, zero, suc, ◌+◌, ◌<◌, ◌≤◌, ◌==◌, ◌||◌, ◌&&◌, nat_lt, Bool, true, false, cond, List, [], ◌∷◌, ◌++◌, Option}
+use Rattle.std.proofs.Common.{◌≡◌, ◌∙◌, ℕ, zero, suc, ◌+◌, ◌<◌, ◌≤◌, ◌==◌, ◌||◌, ◌&&◌, nat_lt, Bool, true, false, cond}
+use Rattle.std.proofs.Common.{List, [], ◌∷◌, ◌++◌, Option}
 use Rattle.std.proofs.Common.{Some, None, length, take, get_or, replicate, refl, ap, sym, arith, add-zero}
 use Rattle.std.specs.List.{list_any}
 use Rattle.std.proofs.lemmas.Bool.Decides.{nat_tests}
@@ -12,7 +13,8 @@ use Rattle.el_base.specs.declared.entries.Entry.{Entry}
 use Rattle.el_base.specs.declared.freed.Freed.{Freed}
 use Rattle.lab.specs.Waits.{acts, last_effect, last_from}
 
-last_from-push : (h place here : ℕ) (last : Option ℕ) (entries : List Entry) (entry : Entry) → here ≡ place + length entries →
+last_from-push : (h place here : ℕ) (last : Option ℕ) (entries : List Entry) (entry : Entry) →
+    here ≡ place + length entries →
     last_from h place last (entries ++ entry ∷ []) ≡ cond (acts h entry) (Some here) (last_from h place last entries)
 last_from-push h place here last [] entry at = ap (λ p. cond (acts h entry) (Some p) last) (sym (at ∙ add-zero place))
 last_from-push h place here last (first ∷ entries) entry at =
@@ -26,7 +28,8 @@ last_more h entries place entry last below here is =
     let size : length (take place entries) ≡ place = length-take-le place entries (le_of_lt below) in
     ap (cond (acts h entry) (Some place)) is
     ∙ sym (last_from-push h 0 place None (take place entries) entry (omega (arith, size)))
-    ∙ ap (last_from h 0 None) (ap (λ (e : Entry). take place entries ++ e ∷ []) here ∙ sym (take_more entries place entry below))
+    ∙ ap (last_from h 0 None)
+    (ap (λ (e : Entry). take place entries ++ e ∷ []) here ∙ sym (take_more entries place entry below))
 
 -- and all of them
 pub last_told : (h : ℕ) (entries : List Entry) (place : ℕ) (last : Option ℕ) → length entries ≤ place →
@@ -41,7 +44,8 @@ none_below : (h : ℕ) → nat_lt h 0 ≡ false
 none_below h = grind (arith, nat_tests)
 
 -- a hart is among so many of one hart where there are some and it is the one
-pub among_replicate : (count hart h : ℕ) → list_any (λ other. other == h) (replicate count hart) ≡ ((hart == h) && nat_lt 0 count)
+pub among_replicate : (count hart h : ℕ) →
+    list_any (λ other. other == h) (replicate count hart) ≡ ((hart == h) && nat_lt 0 count)
 among_replicate zero hart h = sym (and_false (hart == h))
   where
     and_false : (b : Bool) → (b && false) ≡ false
@@ -70,7 +74,8 @@ among_below (suc n) freed h =
     ∙ by (n == h) (nat_lt h n) refl refl
   where
     by : (same below : Bool) → (n == h) ≡ same → nat_lt h n ≡ below →
-        ((below && nat_lt 0 (count_in freed h)) || (same && nat_lt 0 (count_in freed n))) ≡ (nat_lt h (suc n) && nat_lt 0 (count_in freed h))
+        ((below && nat_lt 0 (count_in freed h)) || (same && nat_lt 0 (count_in freed n)))
+        ≡ (nat_lt h (suc n) && nat_lt 0 (count_in freed h))
     by true true same below = absurd (grind (arith, nat_tests))
     by true false same below =
         let is : n ≡ h = grind (arith, nat_tests) in
@@ -87,7 +92,8 @@ among_below (suc n) freed h =
         let over : nat_lt h (suc n) ≡ false = grind (arith, nat_tests) in
         ap (λ b. b && nat_lt 0 (count_in freed h)) (sym over)
 
-pub among_freed : (freed : Freed) (h : ℕ) → h < 8 → list_any (λ other. other == h) (order_of freed) ≡ nat_lt 0 (count_in freed h)
+pub among_freed : (freed : Freed) (h : ℕ) → h < 8 →
+    list_any (λ other. other == h) (order_of freed) ≡ nat_lt 0 (count_in freed h)
 unfolding order_of
 among_freed freed h small =
     let under : nat_lt h 8 ≡ true = grind (arith, nat_tests) in

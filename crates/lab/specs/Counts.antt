@@ -50,5 +50,6 @@ pub record TellTheSame (hart : ℕ) (tries : List Try) (entries : List Entry) : 
 -- the sections of any events from a program's start on are those that the report counts: each once
 abbrev pub SectionsAreThoseOfTheReport : Type 0
 SectionsAreThoseOfTheReport =
-    (program : Program) (config : Config) (events : List Event) (hart : ℕ) → program.harts ≡ config.harts → IsInRange config →
-    TellTheSame hart (tries_from (begin program config) 0 events) (entries_from (begin program config) events)
+    (program : Program) (config : Config) (events : List Event) (hart : ℕ) → program.harts ≡ config.harts →
+    IsInRange config → TellTheSame hart (tries_from (begin program config) 0 events)
+    (entries_from (begin program config) events)

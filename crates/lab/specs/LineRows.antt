@@ -1,5 +1,6 @@
 -- the facts of each line, counted
-use Rattle.std.specs.Prelude.{ℕ, ◌≡◌, Bool, true, false, ◌==◌, ◌&&◌, ◌++◌, ◌∷◌, [], List, Option, None, Some, count_by, filter_map, nat_eq, unwrap_or}
+use Rattle.std.specs.Prelude.{ℕ, ◌≡◌, Bool, true, false, ◌==◌, ◌&&◌, ◌++◌, ◌∷◌, [], List, Option, None, Some, count_by}
+use Rattle.std.specs.Prelude.{filter_map, nat_eq, unwrap_or}
 use Rattle.std.specs.Prelude.{if◌then◌else◌}
 use Rattle.std.specs.HashMap.{get}
 use Rattle.std.specs.HashSet.{HashSet, contains}

@@ -1,5 +1,6 @@
 -- what a story tells of lines
-use Rattle.std.specs.Prelude.{ℕ, zero, suc, Bool, true, false, List, [], ◌∷◌, ◌++◌, Option, None, Some, length, ◌==◌, nat_lt, if◌then◌else◌}
+use Rattle.std.specs.Prelude.{ℕ, zero, suc, Bool, true, false, List, [], ◌∷◌, ◌++◌, Option, None, Some, length, ◌==◌}
+use Rattle.std.specs.Prelude.{nat_lt, if◌then◌else◌}
 use Rattle.std.specs.List.{flat_map, range_with_len}
 use Rattle.std.specs.Option.{option_map}
 use Rattle.bus_order.specs.Order.{Request}
@@ -92,7 +93,8 @@ losses_below place after winner harts = flat_map (λ h. loss_facts place after h
 
 -- what an event of a hart tells, by its outcome, of what the hart asked for and the state after it
 abbrev pub facts_by : ℕ → HartId → Option Asking → ModelState → Outcome → List Fact
-facts_by place hart asked after (outcomes.Missed line need) = record { place = place; line = Some line; what = Missed hart need } ∷ []
+facts_by place hart asked after (outcomes.Missed line need) =
+    record { place = place; line = Some line; what = Missed hart need } ∷ []
 facts_by place hart asked after (outcomes.Served losers freed) =
     served_facts place hart after asked ++ losses_below place after (beaten_by losers) 8
 facts_by place hart asked after (outcomes.Ordered losers freed) = losses_below place after (beaten_by losers) 8

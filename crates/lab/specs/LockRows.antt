@@ -33,7 +33,8 @@ lost_to hart _ = 0
 abbrev pub AreLosses : {S : Type 0} → ℕ → List Try → HashMap (ℕ × ℕ) ℕ S → Type 0
 AreLosses hart tries times =
     (acquire : Acquire) →
-    times_at times acquire ≡ sum_by (λ try. if same_acquire try.acquire acquire then lost_to hart try.ended else 0) tries
+    times_at times acquire ≡ sum_by (λ try. if same_acquire try.acquire acquire then lost_to hart try.ended else 0)
+    tries
 
 -- the instructions of a section that was lost or rolled back
 abbrev pub in_vain : Ended → ℕ
@@ -62,4 +63,5 @@ ran_for why reason = if is_same_reason reason why then 1 else 0
 abbrev pub ArePlain : {S : Type 0} → NotElided → List PlainSwap → HashMap (ℕ × ℕ) ℕ S → Type 0
 ArePlain why swaps times =
     (acquire : Acquire) →
-    times_at times acquire ≡ sum_by (λ swap. if same_acquire swap.acquire acquire then ran_for why swap.why else 0) swaps
+    times_at times acquire ≡ sum_by (λ swap. if same_acquire swap.acquire acquire then ran_for why swap.why else 0)
+    swaps

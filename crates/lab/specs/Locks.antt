@@ -1,5 +1,6 @@
 -- the sections of each acquire, counted
-use Rattle.std.specs.Prelude.{ℕ, ◌≡◌, ◌==◌, ◌&&◌, ◌++◌, ◌∷◌, [], All, Bool, true, List, map, nat_eq, sum_by, if◌then◌else◌}
+use Rattle.std.specs.Prelude.{ℕ, ◌≡◌, ◌==◌, ◌&&◌, ◌++◌, ◌∷◌, [], All, Bool, true, List, map, nat_eq, sum_by}
+use Rattle.std.specs.Prelude.{if◌then◌else◌}
 use Rattle.std.specs.HashSet.{HashSet, contains}
 use Rattle.std.specs.List.{IsDistinct, list_any, range_with_len}
 use Rattle.chronicle.specs.Tally.{nothing, tally_of}
@@ -54,7 +55,8 @@ all_acquires tries swaps = map (λ try. try.acquire) tries ++ map (λ swap. swap
 -- an acquire is among these exactly where a section or a swap has it
 abbrev pub AreOnlyOf : List Try → List PlainSwap → List Acquire → Type 0
 AreOnlyOf tries swaps acquires =
-    (acquire : Acquire) → list_any (same_acquire acquire) acquires ≡ list_any (same_acquire acquire) (all_acquires tries swaps)
+    (acquire : Acquire) → list_any (same_acquire acquire) acquires ≡ list_any (same_acquire acquire)
+    (all_acquires tries swaps)
 
 -- the acquires of some sections are among these, of which none is twice
 pub record AreAcquiresOf (tries : List Try) (acquires : List Acquire) : Type 0 where
@@ -88,7 +90,8 @@ sum_of_harts number entries = sum_by (λ hart. number (tally_of hart entries)) (
 -- the rows of all acquires of some sections sum to what the report has for all harts
 pub record SumToTheSame (tries : List Try) (acquires : List Acquire) (entries : List Entry) : Type 0 where
   pub began : sum_of_rows (λ tally. tally.began) acquires tries ≡ sum_of_harts (λ tally. tally.began) entries
-  pub committed : sum_of_rows (λ tally. tally.committed) acquires tries ≡ sum_of_harts (λ tally. tally.committed) entries
+  pub committed : sum_of_rows (λ tally. tally.committed) acquires tries
+      ≡ sum_of_harts (λ tally. tally.committed) entries
   pub instr : sum_of_rows (λ tally. tally.instr) acquires tries ≡ sum_of_harts (λ tally. tally.instr) entries
   pub conflict : sum_of_rows (λ tally. tally.conflict) acquires tries ≡ sum_of_harts (λ tally. tally.conflict) entries
   pub room : sum_of_rows (λ tally. tally.room) acquires tries ≡ sum_of_harts (λ tally. tally.room) entries
@@ -100,6 +103,7 @@ pub record SumToTheSame (tries : List Try) (acquires : List Acquire) (entries : 
 -- over any events from a program's start on
 abbrev pub RowsSumToTheReport : Type 0
 RowsSumToTheReport =
-    (program : Program) (config : Config) (events : List Event) (acquires : List Acquire) → program.harts ≡ config.harts →
-    IsInRange config → AreAcquiresOf (tries_from (begin program config) 0 events) acquires →
+    (program : Program) (config : Config) (events : List Event) (acquires : List Acquire) →
+    program.harts ≡ config.harts → IsInRange config →
+    AreAcquiresOf (tries_from (begin program config) 0 events) acquires →
     SumToTheSame (tries_from (begin program config) 0 events) acquires (entries_from (begin program config) events)

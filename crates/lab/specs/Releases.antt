@@ -1,5 +1,6 @@
 -- sections whose acquire gives a lock back in place of taking it
-use Rattle.std.specs.Prelude.{ℕ, ◌≡◌, ◌≤◌, ◌==◌, ◌&&◌, Bool, false, not, nat_eq, nat_lt, List, take, take_while, filter, fold, Option, None, Some}
+use Rattle.std.specs.Prelude.{ℕ, ◌≡◌, ◌≤◌, ◌==◌, ◌&&◌, Bool, false, not, nat_eq, nat_lt, List, take, take_while, filter}
+use Rattle.std.specs.Prelude.{fold, Option, None, Some}
 use Rattle.std.specs.Prelude.{if◌then◌else◌}
 use Rattle.std.specs.HashMap.{get}
 use Rattle.std.specs.List.{prefix_len}

@@ -52,13 +52,15 @@ pub record IsOrder (h : ℕ) (old new : ModelState) (request : Option requests.R
   pub place_is : at ≡ position (λ ordered. ordered.hart == h) new.order
 
 -- of a serve: the request that the hart had in the order, and the letters of its line before the event and after it
-pub record IsServe (h : ℕ) (old new : ModelState) (request : Option requests.Request) (before after : List Letter) : Type 0 where
+pub record IsServe (h : ℕ) (old new : ModelState) (request : Option requests.Request)
+    (before after : List Letter) : Type 0 where
   pub request_is : option_map order.numbered request ≡ ordered_of old h
   pub before_are : AreLetters old (ordered_of old h) before
   pub after_are : AreLetters new (ordered_of old h) after
 
 -- of a delivery: the oldest message, and of a probe the request of its origin
-pub record IsDelivery (h : ℕ) (old : ModelState) (message : Option messages.Message) (about : Option requests.Request) : Type 0 where
+pub record IsDelivery (h : ℕ) (old : ModelState) (message : Option messages.Message)
+    (about : Option requests.Request) : Type 0 where
   pub message_is : option_map mailbox.numbered message ≡ slice_get (hart_of old h).mail 0
   pub about_is : option_map order.numbered about ≡ about_of old (slice_get (hart_of old h).mail 0)
 

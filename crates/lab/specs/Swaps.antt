@@ -17,8 +17,8 @@ use Rattle.lab.specs.declared.swaps.PlainSwap.{PlainSwap}
 use Rattle.pair_table.specs.Predictor.{confidence_of}
 use Rattle.rv_flat.specs.FlatState.{view_of}
 
--- the first test of the rule that says no to a swap that runs: the mode elides nothing, the fallback is on, its place is not
--- trusted enough; else the swap is no candidate
+-- the first test of the rule that says no to a swap that runs: the mode elides nothing, the fallback is on, its place
+-- is not trusted enough; else the swap is no candidate
 abbrev pub first_no : Mode → Bool → ℕ → NotElided
 first_no mode fallback confidence =
     if not (elides mode) then PlainMode

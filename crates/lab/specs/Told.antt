@@ -4,7 +4,8 @@ use Rattle.el_base.specs.declared.events.Event.{Event}
 use Rattle.el_model.specs.Next.{next}
 use Rattle.el_model.specs.State.{ModelState}
 
--- what these events tell, one after another, where `tells` says what one event at a place tells; the first is at a place
+-- what these events tell, one after another, where `tells` says what one event at a place
+-- tells; the first is at a place
 abbrev pub told_from : {X : Type 0} → (ModelState → ℕ → Event → List X) → ModelState → ℕ → List Event → List X
 told_from tells state place [] = []
 told_from tells state place (event ∷ events) =

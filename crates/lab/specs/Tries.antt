@@ -1,5 +1,6 @@
 -- the sections of a story, each from the event that began it to the first that ended it
-use Rattle.std.specs.Prelude.{ℕ, ◌≡◌, ◌≢◌, ◌+◌, ◌==◌, true, List, [], ◌∷◌, ◌++◌, map, length, Option, None, Some, option_map, All, nat_lt, if◌then◌else◌}
+use Rattle.std.specs.Prelude.{ℕ, ◌≡◌, ◌≢◌, ◌+◌, ◌==◌, true, List, [], ◌∷◌, ◌++◌, map, length, Option, None, Some}
+use Rattle.std.specs.Prelude.{option_map, All, nat_lt, if◌then◌else◌}
 use Rattle.bus_order.specs.Order.{Request}
 use Rattle.chronicle.specs.Chronicle.{events}
 use Rattle.el_base.specs.HartId.{hart_id}

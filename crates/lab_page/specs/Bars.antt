@@ -1,5 +1,6 @@
 -- pieces drawn together
-use Rattle.std.specs.Prelude.{ℕ, ◌≡◌, ◌<◌, ◌≤◌, ◌+◌, ◌==◌, ◌&&◌, All, Bool, true, List, [], count_by, length, max, slice_index, slice_index_or, slice_set}
+use Rattle.std.specs.Prelude.{ℕ, ◌≡◌, ◌<◌, ◌≤◌, ◌+◌, ◌==◌, ◌&&◌, All, Bool, true, List, [], count_by, length, max}
+use Rattle.std.specs.Prelude.{slice_index, slice_index_or, slice_set}
 use Rattle.lab_page.specs.Kinds.{kind_number}
 use Rattle.lab_page.specs.declared.bars.Bar.{Bar}
 use Rattle.lab_page.specs.declared.kinds.TheConstants.{KINDS}

@@ -4,7 +4,8 @@ use Rattle.el_base.specs.declared.outcomes.Cause.TheVariants as cause
 use Rattle.lab.specs.declared.tries.Ended.{Ended}
 use Rattle.lab.specs.declared.tries.Ended.TheVariants as ended
 use Rattle.lab_page.specs.declared.kinds.Kind.{Kind}
-use Rattle.lab_page.specs.declared.kinds.Kind.TheVariants.{Committed, Released, Lost, Room, Lines, Long, Call, Mixed, Live, Waited, Served, Moved}
+use Rattle.lab_page.specs.declared.kinds.Kind.TheVariants.{Committed, Released, Lost, Room, Lines, Long, Call, Mixed}
+use Rattle.lab_page.specs.declared.kinds.Kind.TheVariants.{Live, Waited, Served, Moved}
 use Rattle.lab_tables.specs.declared.locks.LockKind.{LockKind}
 use Rattle.lab_tables.specs.declared.locks.LockKind.TheVariants.{Take, Release}
 

@@ -6,7 +6,8 @@ use Rattle.el_base.specs.declared.events.Event.{Event}
 use Rattle.el_base.proofs.Laws.ListLaws.{slice_get_push}
 use Rattle.el_model.specs.Next.{is_over, state_after}
 use Rattle.lab_run.specs.Drawn.{MakesDrawn}
-use Rattle.machine.proofs.Laws.Continued.{continued_more, going_more, left_of_continued, nothing_more, state_of_continued}
+use Rattle.machine.proofs.Laws.Continued.{continued_more, going_more, left_of_continued, nothing_more}
+use Rattle.machine.proofs.Laws.Continued.{state_of_continued}
 use Rattle.machine.specs.Story.{Story, continued, left_of, state_of}
 use Rattle.schedule.specs.Drawn.{IsDrawnAt}
 
@@ -33,8 +34,8 @@ reached : (seed : ℕ) (before now : Story) (place : ℕ) (gone : GoesDrawn seed
 reached seed before now place gone = ap state_of gone.story ∙ state_of_continued before gone.made
 
 pub one_made : (seed : ℕ) (before now later : Story) (place : ℕ) (event : Event) → GoesDrawn seed before now place →
-    is_over (state_of now) ≡ false → IsDrawnAt seed before.config.harts place event → later ≡ continued now (event ∷ []) →
-    GoesDrawn seed before later (place + 1)
+    is_over (state_of now) ≡ false → IsDrawnAt seed before.config.harts place event →
+    later ≡ continued now (event ∷ []) → GoesDrawn seed before later (place + 1)
 one_made seed before now later place event gone runs drawn more = record {
   made = gone.made ++ event ∷ [];
   story = continued_more before now later gone.made event gone.story more;
@@ -44,16 +45,18 @@ one_made seed before now later place event gone runs drawn more = record {
         | inl before_it ↦ gone.drawn i other before_it
         | inr last ↦
             let At : ℕ → Type 0 = λ n. IsDrawnAt seed before.config.harts n other in
-            subst At (sym (last.0 ∙ gone.count)) (subst (λ (e : Event). IsDrawnAt seed before.config.harts place e) last.1 drawn)
+            subst At (sym (last.0 ∙ gone.count))
+            (subst (λ (e : Event). IsDrawnAt seed before.config.harts place e) last.1 drawn)
       ];
   going = going_more before now gone.made event gone.story runs gone.going;
 }
 
 -- a step is left where fewer were made than were left
-pub one_left : (seed : ℕ) (before now : Story) (place steps : ℕ) → GoesDrawn seed before now place → steps ≡ left_of before →
-    place < steps → 1 ≤ left_of now
+pub one_left : (seed : ℕ) (before now : Story) (place steps : ℕ) → GoesDrawn seed before now place →
+    steps ≡ left_of before → place < steps → 1 ≤ left_of now
 one_left seed before now place steps gone all within =
-    let left : left_of now ≡ left_of before - length gone.made = ap left_of gone.story ∙ left_of_continued before gone.made in
+    let left : left_of now ≡ left_of before - length gone.made =
+    ap left_of gone.story ∙ left_of_continued before gone.made in
     omega (arith, gone.count, all, within)
 
 all_made : (seed : ℕ) (before now : Story) (place : ℕ) → GoesDrawn seed before now place → place ≤ left_of before →
@@ -73,11 +76,11 @@ all_made seed before now place gone within ended = record {
 }
 
 -- it ends where no step is left, or where every hart has stopped
-pub no_step_left : (seed : ℕ) (before now : Story) (place : ℕ) → GoesDrawn seed before now place → place ≡ left_of before →
-    MakesDrawn seed before now
+pub no_step_left : (seed : ℕ) (before now : Story) (place : ℕ) → GoesDrawn seed before now place →
+    place ≡ left_of before → MakesDrawn seed before now
 no_step_left seed before now place gone full = all_made seed before now place gone (omega (arith, full)) (inl full)
 
-pub all_stopped : (seed : ℕ) (before now : Story) (place steps : ℕ) → GoesDrawn seed before now place → steps ≡ left_of before →
-    place < steps → is_over (state_of now) ≡ true → MakesDrawn seed before now
+pub all_stopped : (seed : ℕ) (before now : Story) (place steps : ℕ) → GoesDrawn seed before now place →
+    steps ≡ left_of before → place < steps → is_over (state_of now) ≡ true → MakesDrawn seed before now
 all_stopped seed before now place steps gone all within over =
     all_made seed before now place gone (omega (arith, all, within)) (inr over)

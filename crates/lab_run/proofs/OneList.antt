@@ -1,5 +1,6 @@
 -- the list of a seed is the only one
-use Rattle.std.proofs.Common.{◌≡◌, ℕ, suc, ◌+◌, ◌<◌, ◌≤◌, List, [], ◌∷◌, length, take, Some, true, false, refl, sym, ◌∙◌, ap, arith, inl, inr}
+use Rattle.std.proofs.Common.{◌≡◌, ℕ, suc, ◌+◌, ◌<◌, ◌≤◌, List, [], ◌∷◌, length, take, Some, true, false, refl, sym}
+use Rattle.std.proofs.Common.{◌∙◌, ap, arith, inl, inr}
 use Rattle.std.specs.Prelude.{slice_get}
 use Rattle.std.proofs.Math.Seq.{take-length}
 use Rattle.std.proofs.lemmas.Bool.{cases_order}
@@ -22,10 +23,11 @@ one_drawn seed harts place a b first second =
 -- each event is the one of its place, the first of them at an offset
 abbrev AreDrawnFrom : ℕ → ℕ → ℕ → List Event → Type 0
 AreDrawnFrom seed harts offset events =
-    (place i : ℕ) → place ≡ offset + i → (event : Event) → slice_get events i ≡ Some event → IsDrawnAt seed harts place event
+    (place i : ℕ) → place ≡ offset + i → (event : Event) → slice_get events i ≡ Some event →
+    IsDrawnAt seed harts place event
 
-drawn_after : (seed harts offset : ℕ) (event : Event) (events : List Event) → AreDrawnFrom seed harts offset (event ∷ events) →
-    AreDrawnFrom seed harts (offset + 1) events
+drawn_after : (seed harts offset : ℕ) (event : Event) (events : List Event) →
+    AreDrawnFrom seed harts offset (event ∷ events) → AreDrawnFrom seed harts (offset + 1) events
 drawn_after seed harts offset event events all place i at other found = all place (suc i) (omega arith) other found
 
 -- so many events of a seed are the same in all of them
@@ -41,8 +43,8 @@ same_drawn seed harts offset (a ∷ first) (b ∷ second) one two within =
     (drawn_after seed harts offset b second two) (omega arith) in
     ap (λ e. e ∷ take (length first) second) heads ∙ ap (λ rest. a ∷ rest) tails
 
-drawn_of : (seed : ℕ) (state : ModelState) (harts left : ℕ) (events : List Event) → AreDrawn seed state harts left events →
-    AreDrawnFrom seed harts 0 events
+drawn_of : (seed : ℕ) (state : ModelState) (harts left : ℕ) (events : List Event) →
+    AreDrawn seed state harts left events → AreDrawnFrom seed harts 0 events
 drawn_of seed state harts left events are place i at event found =
     let here : place ≡ i = omega arith in
     are.drawn place event (rw here found)
@@ -52,7 +54,8 @@ not_shorter : (seed : ℕ) (state : ModelState) (harts left : ℕ) (first second
     AreDrawn seed state harts left first → AreDrawn seed state harts left second → length first < length second → ⊥
 not_shorter seed state harts left first second one two shorter =
     let prefix : take (length first) second ≡ first =
-    same_drawn seed harts 0 first second (drawn_of seed state harts left first one) (drawn_of seed state harts left second two)
+    same_drawn seed harts 0 first second (drawn_of seed state harts left first one)
+    (drawn_of seed state harts left second two)
     (omega arith) in
     let steps : length second ≤ left = two.steps in
     let going : is_over (state_after state first) ≡ false = rw prefix at (two.going (length first) shorter) in
@@ -64,7 +67,8 @@ one_drawn_run seed state harts left first second one two =
     elim (cases_order (length first) (length second)) [
       | inl same ↦
           let prefix : take (length first) second ≡ first =
-          same_drawn seed harts 0 first second (drawn_of seed state harts left first one) (drawn_of seed state harts left second two)
+          same_drawn seed harts 0 first second (drawn_of seed state harts left first one)
+          (drawn_of seed state harts left second two)
           (omega arith) in
           sym prefix ∙ ap (λ n. take n second) same ∙ take-length second
       | inr (inl shorter) ↦ absurd (not_shorter seed state harts left first second one two shorter)

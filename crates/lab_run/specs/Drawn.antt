@@ -6,8 +6,8 @@ use Rattle.el_model.specs.State.{ModelState}
 use Rattle.machine.specs.Story.{Story, continued, left_of, state_of}
 use Rattle.schedule.specs.Drawn.{IsDrawnAt}
 
--- the events that a seed draws for so many harts, from a state on, with so many steps left: each is the one of its place, and they end at
--- the first moment at which every hart has stopped or no step is left
+-- the events that a seed draws for so many harts, from a state on, with so many steps left: each is the one of its
+-- place, and they end at the first moment at which every hart has stopped or no step is left
 pub record AreDrawn (seed : ℕ) (state : ModelState) (harts left : ℕ) (events : List Event) : Type 0 where
   pub drawn : (place : ℕ) (event : Event) → slice_get events place ≡ Some event → IsDrawnAt seed harts place event
   pub steps : length events ≤ left

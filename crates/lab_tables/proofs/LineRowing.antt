@@ -1,5 +1,6 @@
 -- the rows of lines
-use Rattle.std.proofs.Common.{◌≡◌, ◌∙◌, ◌+◌, ◌<◌, ◌≤◌, ◌&&◌, ℕ, Bool, true, false, cond, List, [], ◌∷◌, ◌++◌, Some, ap, arith, get_or, length, refl}
+use Rattle.std.proofs.Common.{◌≡◌, ◌∙◌, ◌+◌, ◌<◌, ◌≤◌, ◌&&◌, ℕ, Bool, true, false, cond, List, [], ◌∷◌, ◌++◌, Some, ap}
+use Rattle.std.proofs.Common.{arith, get_or, length, refl}
 use Rattle.std.proofs.Common.{subst, sym, take}
 use Rattle.std.specs.Prelude.{count_by, filter, slice_get}
 use Rattle.std.specs.Global.{Vec}
@@ -16,14 +17,15 @@ use Rattle.lab.specs.declared.lines.Fact.{Fact}
 use Rattle.lab.specs.declared.lines.LineFact.{LineFact}
 use Rattle.lab.specs.declared.lines.LineFact.TheVariants.{Lost}
 use Rattle.lab_tables.proofs.Pushing.{each_pushed, there}
-use Rattle.lab_tables.specs.LineCounts.{AreAllBeaten, AreAllBeatenBelow, AreBeatenBelow, AreBeatenBy, ShowsAll, is_loss, is_lost}
+use Rattle.lab_tables.specs.LineCounts.{AreAllBeaten, AreAllBeatenBelow, AreBeatenBelow, AreBeatenBy, ShowsAll, is_loss}
+use Rattle.lab_tables.specs.LineCounts.{is_lost}
 use Rattle.lab_tables.specs.LineRows.{beats_in, lines_in}
 use Rattle.lab_tables.specs.declared.lines.LineRow.{LineRow}
 
 -- one loser more
-pub beaten_pushed : (losses : List Fact) (winner : HartId) (lists : List LineCounts) (counts : LineCounts) (loser : HartId) →
-    length lists ≡ loser.number → AreCountsOf (counted.Lost winner loser) losses counts → AreBeatenBelow losses winner lists →
-    AreBeatenBelow losses winner (lists ++ counts ∷ [])
+pub beaten_pushed : (losses : List Fact) (winner : HartId) (lists : List LineCounts) (counts : LineCounts)
+    (loser : HartId) → length lists ≡ loser.number → AreCountsOf (counted.Lost winner loser) losses counts →
+    AreBeatenBelow losses winner lists → AreBeatenBelow losses winner (lists ++ counts ∷ [])
 beaten_pushed losses winner lists counts loser here are each other found e =
     each_pushed (λ i c. (h : HartId) → h.number ≡ i → AreCountsOf (counted.Lost winner h) losses c) lists counts
     (λ i c f h same. each h c (subst (λ k. slice_get lists k ≡ Some c) (sym same) f))
@@ -42,7 +44,8 @@ all_pushed losses lists list winner here are each other found e =
     other.number found e other refl
 
 -- only facts that tell of losses are counted as losses
-not_counted : (winner loser : HartId) (what : LineFact) → is_lost what ≡ false → is_counted (counted.Lost winner loser) what ≡ false
+not_counted : (winner loser : HartId) (what : LineFact) → is_lost what ≡ false →
+    is_counted (counted.Lost winner loser) what ≡ false
 not_counted winner loser (Lost by of) e = absurd cc
 not_counted winner loser _ e = refl
 
@@ -55,7 +58,8 @@ counts_of_losses winner loser line (fact ∷ facts) = by (is_loss fact) refl (co
     by : (b : Bool) → is_loss fact ≡ b →
         count_by (counts_on (counted.Lost winner loser) line) (filter is_loss facts)
         ≡ count_by (counts_on (counted.Lost winner loser) line) facts →
-        count_by (counts_on (counted.Lost winner loser) line) (cond b (fact ∷ filter is_loss facts) (filter is_loss facts))
+        count_by (counts_on (counted.Lost winner loser) line)
+        (cond b (fact ∷ filter is_loss facts) (filter is_loss facts))
         ≡ count_by (counts_on (counted.Lost winner loser) line) (fact ∷ facts)
     by true e rest =
         let f : Fact → ℕ = λ x. cond (counts_on (counted.Lost winner loser) line x) 1 0 in

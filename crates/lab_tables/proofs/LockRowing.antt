@@ -1,5 +1,6 @@
 -- the rows of acquires
-use Rattle.std.proofs.Common.{◌≡◌, ◌∙◌, ℕ, ◌+◌, ◌<◌, ◌≤◌, List, [], ◌∷◌, ◌++◌, ap, arith, get_or, length, subst, sym, take}
+use Rattle.std.proofs.Common.{◌≡◌, ◌∙◌, ℕ, ◌+◌, ◌<◌, ◌≤◌, List, [], ◌∷◌, ◌++◌, ap, arith, get_or, length, subst, sym}
+use Rattle.std.proofs.Common.{take}
 use Rattle.std.specs.Prelude.{slice_index}
 use Rattle.std.proofs.lemmas.List.{map-append, take_all, take_more}
 use Rattle.lab.specs.LockRows.{AreLosses}
@@ -36,7 +37,8 @@ plain_of a b c d = record { plain_mode = a; fallback = b; confidence = c; no_can
 pub runs_same : (a b c d e f g h : ℕ) → a ≡ e → b ≡ f → c ≡ g → d ≡ h →
     plain_of a b c d ≡ plain_of e f g h
 runs_same a b c d e f g h p q r s =
-    ap (λ n. plain_of n b c d) p ∙ ap (λ n. plain_of e n c d) q ∙ ap (λ n. plain_of e f n d) r ∙ ap (λ n. plain_of e f g n) s
+    ap (λ n. plain_of n b c d) p ∙ ap (λ n. plain_of e n c d) q ∙ ap (λ n. plain_of e f n d) r
+    ∙ ap (λ n. plain_of e f g n) s
 
 -- one row more
 pub rows_pushed : (rows : List LockRow) (acquires : List Acquire) (place : ℕ) (row : LockRow) (none : Acquire) →

@@ -3,7 +3,8 @@ use Rattle.std.specs.Prelude.{Bool, true, false}
 use Rattle.el_base.specs.declared.outcomes.Outcome.{Outcome}
 use Rattle.el_base.specs.declared.outcomes.Outcome.TheVariants as outcomes
 use Rattle.lab_tables.specs.declared.info.Came.{Came}
-use Rattle.lab_tables.specs.declared.info.Came.TheVariants.{Idle, Stalled, Missed, Ran, Armed, LetGo, Began, Buffered, Committed, RolledBack, Ordered}
+use Rattle.lab_tables.specs.declared.info.Came.TheVariants.{Idle, Stalled, Missed, Ran, Armed, LetGo, Began, Buffered}
+use Rattle.lab_tables.specs.declared.info.Came.TheVariants.{Committed, RolledBack, Ordered}
 use Rattle.lab_tables.specs.declared.info.Came.TheVariants.{Served, Blocked, Delivered}
 
 -- what an outcome is, whatever it tells beside that

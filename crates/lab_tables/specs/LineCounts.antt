@@ -34,7 +34,8 @@ pub record AreBeatenBy (losses : List Fact) (winner : HartId) (lists : List Line
 -- how often each of the first harts beat each other one
 abbrev pub AreAllBeatenBelow : List Fact → List (Vec LineCounts) → Type 0
 AreAllBeatenBelow losses lists =
-    (winner : HartId) (list : Vec LineCounts) → slice_get lists winner.number ≡ Some list → AreBeatenBy losses winner list.items
+    (winner : HartId) (list : Vec LineCounts) → slice_get lists winner.number ≡ Some list →
+    AreBeatenBy losses winner list.items
 
 pub record AreAllBeaten (losses : List Fact) (lists : List (Vec LineCounts)) : Type 0 where
   pub eight : length lists ≡ 8
@@ -44,7 +45,8 @@ pub record AreAllBeaten (losses : List Fact) (lists : List (Vec LineCounts)) : T
 -- these numbers are those of a line in each of the counts
 abbrev pub ShowsEach : List LineCounts → ℕ → List ℕ → Type 0
 ShowsEach lists line numbers =
-    (hart : ℕ) (counts : LineCounts) → slice_get lists hart ≡ Some counts → slice_index numbers hart ≡ times_in counts line
+    (hart : ℕ) (counts : LineCounts) → slice_get lists hart ≡ Some counts →
+    slice_index numbers hart ≡ times_in counts line
 
 abbrev pub ShowsAll : List (Vec LineCounts) → ℕ → List (List ℕ) → Type 0
 ShowsAll lists line beats =

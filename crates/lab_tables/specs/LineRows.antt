@@ -25,7 +25,8 @@ pub record IsLineRow (facts : List Fact) (row : LineRow) : Type 0 where
   pub served : row.served ≡ times Served row.line facts
   pub owners : row.owners ≡ times Owner row.line facts
   pub written_back : row.written_back ≡ times WrittenBack row.line facts
-  pub beats : (winner loser : HartId) → beats_in row.beats winner.number loser.number ≡ times (Lost winner loser) row.line facts
+  pub beats : (winner loser : HartId) →
+      beats_in row.beats winner.number loser.number ≡ times (Lost winner loser) row.line facts
 
 abbrev pub lines_in : List LineRow → List LineAddr
 lines_in rows = map (λ row. row.line) rows

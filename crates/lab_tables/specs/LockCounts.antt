@@ -10,7 +10,8 @@ use Rattle.lab_tables.specs.declared.locks.Counts as code
 
 -- the first of these counts are losses to the first harts
 abbrev pub AreLossesBelow : List Try → List AcquireCounts → Type 0
-AreLossesBelow tries lists = (hart : ℕ) (counts : AcquireCounts) → slice_get lists hart ≡ Some counts → AreLosses hart tries counts.times
+AreLossesBelow tries lists = (hart : ℕ) (counts : AcquireCounts) → slice_get lists hart ≡ Some counts →
+    AreLosses hart tries counts.times
 
 -- losses to each hart
 pub record AreLossesTo (tries : List Try) (lists : List AcquireCounts) : Type 0 where
@@ -30,4 +31,5 @@ pub record AreOf (tries : List Try) (swaps : List PlainSwap) (counts : code.Coun
 -- these numbers are those of an acquire in each of the counts
 abbrev pub ShowsEach : List AcquireCounts → Acquire → List ℕ → Type 0
 ShowsEach lists acquire numbers =
-    (hart : ℕ) (counts : AcquireCounts) → slice_get lists hart ≡ Some counts → slice_index numbers hart ≡ times_at counts.times acquire
+    (hart : ℕ) (counts : AcquireCounts) → slice_get lists hart ≡ Some counts →
+    slice_index numbers hart ≡ times_at counts.times acquire

@@ -14,7 +14,8 @@ use Rattle.lab_tables.specs.declared.locks.PlainRuns.{PlainRuns}
 
 -- how many sections of an acquire were lost to a hart
 abbrev pub losses_at : ℕ → Acquire → List Try → ℕ
-losses_at hart acquire tries = sum_by (λ try. if same_acquire try.acquire acquire then lost_to hart try.ended else 0) tries
+losses_at hart acquire tries =
+    sum_by (λ try. if same_acquire try.acquire acquire then lost_to hart try.ended else 0) tries
 
 -- how many instructions of its sections ran in vain
 abbrev pub in_vain_at : Acquire → List Try → ℕ
@@ -22,7 +23,8 @@ in_vain_at acquire tries = sum_by (λ try. if same_acquire try.acquire acquire t
 
 -- how often its swap ran plainly for a reason
 abbrev pub plain_at : NotElided → Acquire → List PlainSwap → ℕ
-plain_at why acquire swaps = sum_by (λ swap. if same_acquire swap.acquire acquire then ran_for why swap.why else 0) swaps
+plain_at why acquire swaps =
+    sum_by (λ swap. if same_acquire swap.acquire acquire then ran_for why swap.why else 0) swaps
 
 abbrev pub plain_runs : Acquire → List PlainSwap → PlainRuns
 plain_runs acquire swaps = record {
@@ -45,7 +47,8 @@ acquires_in rows = map (λ row. row.acquire) rows
 
 -- each acquire of these sections and swaps has one row, no other has one, and each row is that of its acquire; the rows
 -- stand in the order of the acquires' first sections, and behind them in that of their first swaps
-pub record AreLockRows (what : LockKind) (tries : List Try) (swaps : List PlainSwap) (rows : List LockRow) : Type 0 where
+pub record AreLockRows (what : LockKind) (tries : List Try) (swaps : List PlainSwap)
+    (rows : List LockRow) : Type 0 where
   pub sections : AreAcquiresOf tries (acquires_in rows)
   pub plain : AreAmong swaps (acquires_in rows)
   pub only : AreOnlyOf tries swaps (acquires_in rows)

@@ -42,8 +42,8 @@ abbrev pub request_on : ℕ → Option Request → Bool
 request_on line None = false
 request_on line (Some request) = request.line.number == line
 
--- of a step: its instruction stands at the address, or its access or the section that it begins, ends or lets go is on the
--- line; of an order, a serve and a probe: the request is for the line
+-- of a step: its instruction stands at the address, or its access or the section that it begins, ends or lets go is on
+-- the line; of an order, a serve and a probe: the request is for the line
 abbrev pub what_about : ℕ → Outcome → What → Bool
 what_about address outcome (Step before action after) =
     before.view.pc == address

@@ -1,5 +1,6 @@
 -- what an event did, as a list of items
-use Rattle.std.specs.Prelude.{ℕ, ◌%◌, Bool, true, false, ◌==◌, ◌||◌, List, [], ◌∷◌, ◌++◌, Option, None, Some, if◌then◌else◌, slice_index_or}
+use Rattle.std.specs.Prelude.{ℕ, ◌%◌, Bool, true, false, ◌==◌, ◌||◌, List, [], ◌∷◌, ◌++◌, Option, None, Some}
+use Rattle.std.specs.Prelude.{if◌then◌else◌, slice_index_or}
 use Rattle.std.specs.List.{flat_map, range_with_len}
 use Rattle.std.specs.Option.{option_map}
 use Rattle.bus_order.specs.declared.request.Request.{Request}
@@ -40,7 +41,8 @@ is_deed outcomes.Idle = false
 is_deed outcomes.Stalled = false
 is_deed _ = true
 
--- a section that began, ran on or ended by a step: what is told of it is the section after its beginning, and before its end
+-- a section that began, ran on or ended by a step: what is told of it is the section after
+-- its beginning, and before its end
 abbrev pub section_items : Outcome → Option Live → Option Live → List Item
 section_items outcomes.Began before (Some live) = items.Began live.word live.old live.new ∷ []
 section_items outcomes.Buffered before after = items.Private ∷ []
@@ -50,7 +52,8 @@ section_items outcomes.Armed before after = items.Armed ∷ []
 section_items (outcomes.LetGo count) before after = items.LetGo count ∷ []
 section_items _ before after = []
 
--- whether a step of this outcome reads and stores what its instruction does: the acquire and the release of a section do not
+-- whether a step of this outcome reads and stores what its instruction does: the acquire and
+-- the release of a section do not
 abbrev pub has_access : Outcome → Bool
 has_access outcomes.Ran = true
 has_access outcomes.Buffered = true
@@ -85,7 +88,8 @@ amo_stores op source old = option_map (λ value. amo_of op value source) old
 abbrev pub store_items : Action → HartView → List Item
 store_items (actions.Store address len value) after = items.Stored address len (Some (low_bytes len value)) ∷ []
 store_items (actions.StoreConditional rd address value) after = items.Stored address 4 (Some value) ∷ []
-store_items (actions.Amo op rd address source) after = items.Stored address 4 (amo_stores op source (put_into rd after)) ∷ []
+store_items (actions.Amo op rd address source) after =
+    items.Stored address 4 (amo_stores op source (put_into rd after)) ∷ []
 store_items (actions.Append address len) after = items.Appended address len ∷ []
 store_items _ after = []
 
@@ -98,7 +102,8 @@ abbrev pub register_item : ℕ → ℕ → ℕ → List Item
 register_item index from to = if from == to then [] else items.Register index to ∷ []
 
 abbrev pub register_items : List ℕ → List ℕ → List Item
-register_items before after = flat_map (λ index. register_item index (get before index) (get after index)) (range_with_len 0 32)
+register_items before after =
+    flat_map (λ index. register_item index (get before index) (get after index)) (range_with_len 0 32)
 
 -- the pc, where the hart neither stayed nor went on to the next instruction in memory
 abbrev pub pc_items : ℕ → ℕ → List Item

@@ -42,8 +42,8 @@ pub record AreNamed (told : Option Contents) (traced : Traced) (run : Recorded) 
 abbrev pub tries_of : Recorded → List Try
 tries_of run = tries_from (state_of run.machine) 0 run.trace.events
 
--- what a run came to by the events of its trace: its machine, its sections by whether they take a lock or give it back, the swaps that ran
--- plainly, and the facts on its lines
+-- what a run came to by the events of its trace: its machine, its sections by whether they take a lock or give it back,
+-- the swaps that ran plainly, and the facts on its lines
 pub record IsFollowed (run : Recorded) (followed : Followed) : Type 0 where
   pub machine : followed.machine ≡ continued run.machine run.trace.events
   pub swaps : followed.swaps.items ≡ swaps_from (state_of run.machine) 0 run.trace.events
@@ -51,7 +51,8 @@ pub record IsFollowed (run : Recorded) (followed : Followed) : Type 0 where
   pub takes : followed.sections.takes.items ≡ takes_of followed.swaps.items (tries_of run)
   pub releases : followed.sections.releases.items ≡ releases_of followed.swaps.items (tries_of run)
 
--- a machine has gone on by a schedule, and by nothing else: by events that its seed draws, or by the listed ones as far as steps are left
+-- a machine has gone on by a schedule, and by nothing else: by events that its seed draws, or by the
+-- listed ones as far as steps are left
 abbrev pub GoesBy : Schedule → List Event → Story → Story → Type 0
 GoesBy (Random seed) events before later = MakesDrawn seed before later
 GoesBy (Order file) events before later = later ≡ continued before (take (left_of before) events)

@@ -7,10 +7,12 @@ use Rattle.std.proofs.lemmas.Grind.{same_number_lists}
 use Rattle.line_lanes.specs.Merged.{merged_byte, word_at}
 
 -- a merged byte where the mask has its bit, and where it has not
-pub merged-over : (line over : List ℕ) (mask place : ℕ) → bit_at mask place ≡ 1 → merged_byte line over mask place ≡ slice_index over place
+pub merged-over : (line over : List ℕ) (mask place : ℕ) → bit_at mask place ≡ 1 →
+    merged_byte line over mask place ≡ slice_index over place
 merged-over line over mask place set = grind (arith, nat_tests)
 
-pub merged-under : (line over : List ℕ) (mask place : ℕ) → bit_at mask place ≡ 0 → merged_byte line over mask place ≡ slice_index line place
+pub merged-under : (line over : List ℕ) (mask place : ℕ) → bit_at mask place ≡ 0 →
+    merged_byte line over mask place ≡ slice_index line place
 merged-under line over mask place clear = grind (arith, nat_tests)
 
 -- without any bit a line stays as it is
@@ -21,7 +23,8 @@ merged-none line over place = merged-under line over 0 place (bit_at-zero place)
 pub same_lines : (left right : List ℕ) → length left ≡ 64 → length right ≡ 64
     → ((place : ℕ) → place < 64 → slice_index left place ≡ slice_index right place)
     → left ≡ right
-same_lines left right long other_long each = same_number_lists left right (omega arith) (λ k within. each k (omega arith))
+same_lines left right long other_long each =
+    same_number_lists left right (omega arith) (λ k within. each k (omega arith))
 
 -- a merged byte is a byte
 pub merged-below : (line over : List ℕ) (mask place : ℕ) → slice_index line place < 256 → slice_index over place < 256

@@ -1,5 +1,6 @@
 -- The table of ones, and eight bytes that are taken from it.
-use Rattle.std.proofs.Common.{◌≡◌, ℕ, zero, suc, ◌+◌, ◌-◌, ◌*◌, ◌/◌, ◌%◌, ◌^◌, ◌<◌, ◌==◌, ◌&&◌, nat_lt, if◌then◌else◌, Bool, true, false, slice_index}
+use Rattle.std.proofs.Common.{◌≡◌, ℕ, zero, suc, ◌+◌, ◌-◌, ◌*◌, ◌/◌, ◌%◌, ◌^◌, ◌<◌, ◌==◌, ◌&&◌, nat_lt, if◌then◌else◌}
+use Rattle.std.proofs.Common.{Bool, true, false, slice_index}
 use Rattle.std.proofs.Common.{refl, ap, sym, ◌∙◌, inl, inr, lit<, arith}
 use Rattle.std.specs.Int.{bit_at, byte_at}
 use Rattle.std.proofs.lemmas.Bool.{cases_eq, cases_lt}
@@ -39,7 +40,9 @@ rows_fit = refl
 
 row_small : (row : ℕ) → row < 16 → slice_index ONES row < 2 ^ 32
 row_small row within =
-    let fits = first_of (nat_lt (slice_index ONES row) (2 ^ 32)) (each_below (byte_fits row) 4) (below row_fits 16 row rows_fit within) in
+    let fits =
+    first_of (nat_lt (slice_index ONES row) (2 ^ 32)) (each_below (byte_fits row) 4)
+    (below row_fits 16 row rows_fit within) in
     grind (arith, nat_tests)
 
 row_byte : (row k : ℕ) → row < 16 → k < 4 → byte_at k (slice_index ONES row) ≡ (if bit_at row k == 1 then 255 else 0)
@@ -79,12 +82,14 @@ bit_high (suc (suc (suc zero))) bits less = omega arith
 bit_high (suc (suc (suc (suc k)))) bits less = absurd (omega arith)
 
 -- the place is in the first word or in the second
-pub spread_byte : (bits low high place : ℕ) → low ≡ slice_index ONES (bits % 16) → high ≡ slice_index ONES (bits / 16 % 16) → place < 8
+pub spread_byte : (bits low high place : ℕ) → low ≡ slice_index ONES (bits % 16) →
+    high ≡ slice_index ONES (bits / 16 % 16) → place < 8
     → byte_at place (low + high * 2 ^ 32 % 2 ^ 64) ≡ (if bit_at bits place == 1 then 255 else 0)
 spread_byte bits low high place low_is high_is within =
     ap (λ n. byte_at place n) whole ∙ (elim (cases_lt place 4) [
       | inl first ↦
-          byte_low place low high first low_small ∙ ap (λ n. byte_at place n) low_is ∙ row_byte (bits % 16) place low_row first
+          byte_low place low high first low_small ∙ ap (λ n. byte_at place n) low_is
+          ∙ row_byte (bits % 16) place low_row first
           ∙ ap (λ b. if b == 1 then 255 else 0) (bit_low place bits first)
       | inr second ↦ in_second (place - 4) (omega arith) (omega arith)
     ])
@@ -101,8 +106,10 @@ spread_byte bits low high place low_is high_is within =
     whole : low + high * 2 ^ 32 % 2 ^ 64 ≡ low + high * 2 ^ 32
     whole = omega (arith, row_small (bits / 16 % 16) high_row, high_is)
 
-    in_second : (k : ℕ) → k < 4 → place ≡ 4 + k → byte_at place (low + high * 2 ^ 32) ≡ (if bit_at bits place == 1 then 255 else 0)
+    in_second : (k : ℕ) → k < 4 → place ≡ 4 + k →
+        byte_at place (low + high * 2 ^ 32) ≡ (if bit_at bits place == 1 then 255 else 0)
     in_second k less is =
-        ap (λ p. byte_at p (low + high * 2 ^ 32)) is ∙ byte_high k low high less low_small ∙ ap (λ n. byte_at k n) high_is
+        ap (λ p. byte_at p (low + high * 2 ^ 32)) is ∙ byte_high k low high less low_small
+        ∙ ap (λ n. byte_at k n) high_is
         ∙ row_byte (bits / 16 % 16) k high_row less ∙ ap (λ b. if b == 1 then 255 else 0) (bit_high k bits less)
         ∙ ap (λ p. if bit_at bits p == 1 then 255 else 0) (sym is)

@@ -1,5 +1,6 @@
 -- Eight bytes that were put into a line, merged ones among them, and the bytes of a merged word.
-use Rattle.std.proofs.Common.{◌≡◌, ℕ, zero, suc, ◌+◌, ◌-◌, ◌/◌, ◌%◌, ◌^◌, ◌<◌, ◌≤◌, List, ◌++◌, drop, length, take, slice_index, ap, sym, subst, ◌∙◌}
+use Rattle.std.proofs.Common.{◌≡◌, ℕ, zero, suc, ◌+◌, ◌-◌, ◌/◌, ◌%◌, ◌^◌, ◌<◌, ◌≤◌, List, ◌++◌, drop, length, take}
+use Rattle.std.proofs.Common.{slice_index, ap, sym, subst, ◌∙◌}
 use Rattle.std.proofs.Common.{lit<, add-zero, arith}
 use Rattle.std.specs.Int.{bit_at, byte_at, bytes_low_first, to_le_bytes, w64}
 use Rattle.std.proofs.lemmas.Nat.{shr-shr}
@@ -65,10 +66,12 @@ merged_from place mask lane old new over put are = record {
 }
   where
     here : (j k : ℕ) → k ≡ place + j → j < 8 → slice_index new k ≡ merged_byte old over mask k
-    here j k is less = ap (λ n. slice_index new n) is ∙ put.here j less ∙ are j less ∙ ap (λ n. merged_byte old over mask n) (sym is)
+    here j k is less =
+        ap (λ n. slice_index new n) is ∙ put.here j less ∙ are j less ∙ ap (λ n. merged_byte old over mask n) (sym is)
 
 -- a word of bytes that are those from a place on
-pub word_is : (lane word place : ℕ) (bytes : List ℕ) (byte : ℕ → ℕ) → word ≡ word_at (slice_index bytes) 0 → bytes ≡ to_le_bytes w64 lane
+pub word_is : (lane word place : ℕ) (bytes : List ℕ) (byte : ℕ → ℕ) → word ≡ word_at (slice_index bytes) 0 →
+    bytes ≡ to_le_bytes w64 lane
     → ((k : ℕ) → k < 4 → byte_at k lane ≡ byte (place + k)) → word ≡ word_at byte place
 word_is lane word place bytes byte is bytes_are are =
     let first : byte (place + 0) ≡ byte place = ap byte (add-zero place) in
@@ -78,7 +81,8 @@ word_is lane word place bytes byte is bytes_are are =
     each k less = ap (λ l. slice_index l k) bytes_are ∙ byte_listed k lane (omega arith) ∙ are k less
 
 -- and they are bytes
-pub bytes_fit : (byte : ℕ → ℕ) (lane from offset : ℕ) → from ≡ offset → ((k : ℕ) → k < 4 → byte_at k lane ≡ byte (from + k))
+pub bytes_fit : (byte : ℕ → ℕ) (lane from offset : ℕ) → from ≡ offset →
+    ((k : ℕ) → k < 4 → byte_at k lane ≡ byte (from + k))
     → (place : ℕ) → offset ≤ place → place < offset + 4 → byte place < 256
 bytes_fit byte lane from offset is are place past before = at (place - from) (omega arith) (omega arith)
   where

@@ -8,7 +8,8 @@ abbrev pub lane_of : List ℕ → ℕ → ℕ
 lane_of line place =
     from_le_bytes w64
     (slice_index line place ∷ slice_index line (place + 1) ∷ slice_index line (place + 2) ∷ slice_index line (place + 3)
-    ∷ slice_index line (place + 4) ∷ slice_index line (place + 5) ∷ slice_index line (place + 6) ∷ slice_index line (place + 7) ∷ [])
+    ∷ slice_index line (place + 4) ∷ slice_index line (place + 5) ∷ slice_index line (place + 6) ∷ slice_index line
+    (place + 7) ∷ [])
 
 -- eight bytes were put at a place
 pub record IsPutAt (place : ℕ) (old new : List ℕ) (lane : ℕ) : Type 0 where

@@ -1,5 +1,6 @@
 -- How many places of a share are out, counted one by one.
-use Rattle.std.proofs.Common.{◌≡◌, ℕ, zero, suc, ◌+◌, ◌<◌, ◌≤◌, ◌==◌, nat_lt, if◌then◌else◌, true, List, [], ◌∷◌, length, refl, ap, sym, ◌∙◌, inl, inr, arith}
+use Rattle.std.proofs.Common.{◌≡◌, ℕ, zero, suc, ◌+◌, ◌<◌, ◌≤◌, ◌==◌, nat_lt, if◌then◌else◌, true, List, [], ◌∷◌}
+use Rattle.std.proofs.Common.{length, refl, ap, sym, ◌∙◌, inl, inr, arith}
 use Rattle.std.specs.List.{count_by}
 use Rattle.std.proofs.lemmas.Bool.{cases_eq, cases_lt}
 use Rattle.std.proofs.lemmas.Bool.Decides.{nat_tests}
@@ -16,7 +17,8 @@ outs_below share (suc n) = outs_below share n + (if is_out_in share n then 1 els
 abbrev listed_below : List ℕ → ℕ → ℕ
 listed_below places n = count_by (λ other. nat_lt other n) places
 
-times-cons : (place : ℕ) (places : List ℕ) (n : ℕ) → times_in (place ∷ places) n ≡ (if place == n then 1 else 0) + times_in places n
+times-cons : (place : ℕ) (places : List ℕ) (n : ℕ) →
+    times_in (place ∷ places) n ≡ (if place == n then 1 else 0) + times_in places n
 times-cons place places n = sum_by-cons (λ other. if other == n then 1 else 0) place places
 
 below-cons : (place : ℕ) (places : List ℕ) (n : ℕ)
@@ -31,10 +33,18 @@ below-suc : (places : List ℕ) (n : ℕ) → listed_below places (suc n) ≡ li
 below-suc [] n = refl
 below-suc (place ∷ places) n =
     let rest = below-suc places n in
-    grind (arith, nat_tests, rest, below-cons place places (suc n), below-cons place places n, times-cons place places n)
+    grind (
+      arith,
+      nat_tests,
+      rest,
+      below-cons place places (suc n),
+      below-cons place places n,
+      times-cons place places n,
+    )
 
 -- all listed places are below another, where none is listed from that one on
-below-all : (places : List ℕ) (n : ℕ) → ((place : ℕ) → n ≤ place → times_in places place ≡ 0) → listed_below places n ≡ length places
+below-all : (places : List ℕ) (n : ℕ) → ((place : ℕ) → n ≤ place → times_in places place ≡ 0) →
+    listed_below places n ≡ length places
 below-all [] n none = refl
 below-all (place ∷ places) n none =
     let rest = below-all places n (λ other past. omega (arith, times-cons place places other, none other past)) in
@@ -75,6 +85,7 @@ one_out share place (suc n) within is = elim (cases_eq place n) [
     here same = let at : is_out_in share n ≡ true = ap (is_out_in share) (sym same) ∙ is in grind (arith, at)
 
 -- where a place is out, fewer are free than there are
-pub some_out : (share : Share) (place : ℕ) → IsShare share → is_out_in share place ≡ true → length share.free < share.quota
+pub some_out : (share : Share) (place : ℕ) → IsShare share → is_out_in share place ≡ true →
+    length share.free < share.quota
 some_out share place is out =
     omega (arith, counted share is, one_out share place share.quota (grind (arith, nat_tests)) out)

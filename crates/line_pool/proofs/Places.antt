@@ -1,14 +1,17 @@
 -- Where slots are among all slots: distinct ones apart, and all of them within.
-use Rattle.std.proofs.Common.{◌≡◌, ◌≢◌, ℕ, ◌<◌, true, List, [], length, slice_index, slice_index_or, slice_set, sum, take, refl, ap, sym, ◌∙◌, inl, inr, arith}
+use Rattle.std.proofs.Common.{◌≡◌, ◌≢◌, ℕ, ◌<◌, true, List, [], length, slice_index, slice_index_or, slice_set, sum}
+use Rattle.std.proofs.Common.{take, refl, ap, sym, ◌∙◌, inl, inr, arith}
 use Rattle.std.proofs.lemmas.Bool.{cases_eq, cases_lt}
 use Rattle.std.proofs.lemmas.Bool.Decides.{nat_tests}
-use Rattle.std.proofs.lemmas.List.{get_or_past, get_or_read, get_or-map, get_or-set_other, get_or-set_same, get_or-take, length-take-le, take-take}
+use Rattle.std.proofs.lemmas.List.{get_or_past, get_or_read, get_or-map, get_or-set_other, get_or-set_same, get_or-take}
+use Rattle.std.proofs.lemmas.List.{length-take-le, take-take}
 use Rattle.std.proofs.lemmas.List.Sums.{sum_by_more_le}
 use Rattle.line_pool.specs.declared.share.Share as code
 use Rattle.line_pool.specs.declared.slot.Slot.{Slot}
 use Rattle.line_pool.specs.Calls.{IsWritten}
 use Rattle.line_pool.specs.Kept.{PoolStands, index_in, quotas_in, shown_pool}
-use Rattle.line_pool.specs.Pooled.{Pooled, Share, bytes_of, has_slot, index_by, is_out, quota_of, quotas_of, share_of, with_bytes, no_share}
+use Rattle.line_pool.specs.Pooled.{Pooled, Share, bytes_of, has_slot, index_by, is_out, quota_of, quotas_of, share_of}
+use Rattle.line_pool.specs.Pooled.{with_bytes, no_share}
 use Rattle.line_pool.proofs.Steps.{out_there, quotas_shown, same_slots}
 
 -- a list of quotas has as many slots
@@ -22,7 +25,8 @@ owner_within quotas slot has = elim (cases_lt slot.owner (length quotas)) [
 ]
 
 index_within : (quotas : List ℕ) (slot : Slot) → Has quotas slot → index_by quotas slot < sum quotas
-index_within quotas slot has = omega (arith, has, sum_by_more_le (λ quota. quota) quotas slot.owner 0 (owner_within quotas slot has))
+index_within quotas slot has =
+    omega (arith, has, sum_by_more_le (λ quota. quota) quotas slot.owner 0 (owner_within quotas slot has))
 
 -- the slots of an owner end before those of a later one begin
 earlier : (quotas : List ℕ) (slot other : Slot) → Has quotas slot → Has quotas other → slot.owner < other.owner
@@ -59,7 +63,8 @@ has-out pool slot out =
     grind (arith, nat_tests, quota, out)
 
 -- the bytes of a slot after they were written, and those of the others
-module _ (pool : Pooled) (total : length pool.lines ≡ sum (quotas_of pool)) (slot : Slot) (has : has_slot pool slot ≡ true)
+module _ (pool : Pooled) (total : length pool.lines ≡ sum (quotas_of pool)) (slot : Slot)
+    (has : has_slot pool slot ≡ true)
     (bytes : List ℕ) where
   written_here : bytes_of (with_bytes pool slot bytes) slot ≡ bytes
   written_here =
@@ -108,7 +113,8 @@ module _ (shares : List code.Share) (lines : List (List ℕ)) (stands : PoolStan
 
   pub line_lent : (bytes : List ℕ) → shown_pool shares (slice_set lines index bytes) ≡ with_bytes pool slot bytes
   line_lent bytes =
-      ap (λ n. shown_pool shares (slice_set lines n bytes)) (at ∙ ap (λ quotas. index_by quotas slot) (sym (quotas_shown shares lines)))
+      ap (λ n. shown_pool shares (slice_set lines n bytes))
+      (at ∙ ap (λ quotas. index_by quotas slot) (sym (quotas_shown shares lines)))
       ∙ ap (λ p. with_bytes p slot bytes) is
 
   pub line_written : (bytes : List ℕ) → IsWritten pool (with_bytes pool slot bytes) slot bytes

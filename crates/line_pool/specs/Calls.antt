@@ -1,7 +1,9 @@
 -- what each call makes of a pool
-use Rattle.std.specs.Prelude.{ℕ, ◌≡◌, ◌≢◌, ◌≤◌, ◌+◌, nat_lt, true, false, if◌then◌else◌, List, length, replicate, sum, sum_by}
+use Rattle.std.specs.Prelude.{ℕ, ◌≡◌, ◌≢◌, ◌≤◌, ◌+◌, nat_lt, true, false, if◌then◌else◌, List, length, replicate, sum}
+use Rattle.std.specs.Prelude.{sum_by}
 use Rattle.line_pool.specs.declared.slot.Slot.{Slot}
-use Rattle.line_pool.specs.Pooled.{Pooled, Share, bytes_of, has_slot, is_out, out_in, out_of, owner_of, quotas_of, share_of, times_in}
+use Rattle.line_pool.specs.Pooled.{Pooled, Share, bytes_of, has_slot, is_out, out_in, out_of, owner_of, quotas_of}
+use Rattle.line_pool.specs.Pooled.{share_of, times_in}
 
 -- what holds of every share: no more slots are free than it has, and each of them once
 pub record IsShare (share : Share) : Type 0 where

@@ -1,5 +1,6 @@
 -- how the fields of a pool show it, and what they keep
-use Rattle.std.specs.Prelude.{ℕ, true, ◌≡◌, ◌≤◌, ◌<◌, ◌++◌, ◌∷◌, [], nat_lt, if◌then◌else◌, List, Option, length, map, option_to_list, slice_index_or}
+use Rattle.std.specs.Prelude.{ℕ, true, ◌≡◌, ◌≤◌, ◌<◌, ◌++◌, ◌∷◌, [], nat_lt, if◌then◌else◌, List, Option, length, map}
+use Rattle.std.specs.Prelude.{option_to_list, slice_index_or}
 use Rattle.std.specs.Prelude.{slice_set, sum, take, vec_capacity}
 use Rattle.line_pool.specs.declared.share.Share as code
 use Rattle.line_pool.specs.declared.slot.Slot.{Slot}
@@ -62,7 +63,8 @@ pub record IsGivenAt (owner place : ℕ) (old new : List code.Share) : Type 0 wh
 
 -- a place of an owner's share is out
 abbrev pub IsOutAt : ℕ → ℕ → List code.Share → Type 0
-IsOutAt owner place shares = (d : code.Share) → owner < length shares → is_out_in (shown_share (slice_index_or shares owner d)) place ≡ true
+IsOutAt owner place shares =
+    (d : code.Share) → owner < length shares → is_out_in (shown_share (slice_index_or shares owner d)) place ≡ true
 
 -- what each share keeps: the slots of an owner begin where those of the owner before it end
 abbrev pub AreKept : List code.Share → Type 0

@@ -1,5 +1,6 @@
 -- a pool of slots, of which each owner has its share
-use Rattle.std.specs.Prelude.{ℕ, ◌+◌, ◌-◌, ◌==◌, ◌&&◌, nat_lt, Bool, List, [], count_by, length, map, slice_index, slice_index_or, slice_set, sum, take}
+use Rattle.std.specs.Prelude.{ℕ, ◌+◌, ◌-◌, ◌==◌, ◌&&◌, nat_lt, Bool, List, [], count_by, length, map, slice_index}
+use Rattle.std.specs.Prelude.{slice_index_or, slice_set, sum, take}
 use Rattle.line_pool.specs.declared.slot.Slot.{Slot}
 
 -- one owner's share: how many slots it has, and the places of those that are free

@@ -36,8 +36,9 @@ record OneMore (place : ℕ) (before after : Option ℕ) (wanted outcome : Outco
   here : before ≡ None → wanted ≢ outcome → after ≡ Some place
 
 compared_more : (recorded found : List Outcome) (place : ℕ) (wanted outcome : Outcome) (before after : Option ℕ) →
-    slice_get recorded place ≡ Some wanted → slice_get found place ≡ Some outcome → OneMore place before after wanted outcome →
-    Compared recorded found place before → Compared recorded found (place + 1) after
+    slice_get recorded place ≡ Some wanted → slice_get found place ≡ Some outcome →
+    OneMore place before after wanted outcome → Compared recorded found place before →
+    Compared recorded found (place + 1) after
 compared_more recorded found place wanted outcome None None was is more so_far = λ i within.
     elim (cases_order i place) [
       | inl same ↦ rw same (was ∙ ap Some (more.agrees.0 refl).1 ∙ sym is)
@@ -56,11 +57,13 @@ compared_more recorded found place wanted outcome (Some earlier) (Some first) wa
     rw first_is (omega (arith, within), difference)
 
 -- so many events were made, and compared
-pub record Compares (before now : Story) (events : List Event) (recorded : List Outcome) (count : ℕ) (first : Option ℕ) : Type 0 where
+pub record Compares (before now : Story) (events : List Event) (recorded : List Outcome) (count : ℕ)
+    (first : Option ℕ) : Type 0 where
   pub story : now ≡ continued before (take count events)
   so_far : Compared recorded (outcomes_from (state_of before) events) count first
 
-pub none_compared : (story : Story) (events : List Event) (recorded : List Outcome) → Compares story story events recorded 0 None
+pub none_compared : (story : Story) (events : List Event) (recorded : List Outcome) →
+    Compares story story events recorded 0 None
 none_compared story events recorded =
     record { story = sym (nothing_more story); so_far = λ place within. absurd (omega (arith, within)) }
 
@@ -94,8 +97,8 @@ same_place recorded found one other first second =
       | inr (inr later) ↦ absurd (second.here (first.before other later))
     ]
 
-all_same : (recorded found : List Outcome) → length recorded ≡ length found → Compared recorded found (length found) None →
-    recorded ≡ found
+all_same : (recorded found : List Outcome) → length recorded ≡ length found →
+    Compared recorded found (length found) None → recorded ≡ found
 all_same recorded found each compared =
     same_lists recorded found each
     (λ place d within.
@@ -111,7 +114,8 @@ agreement recorded found (Some place) each (within, difference) =
     (λ none. absurd (cc), λ same. absurd (difference.here (ap (λ list. slice_get list place) same)))
 
 difference : (recorded found : List Outcome) (first : Option ℕ) → length recorded ≡ length found →
-    Compared recorded found (length found) first → (place : ℕ) → (first ≡ Some place) ↔ IsFirstDifference recorded found place
+    Compared recorded found (length found) first → (place : ℕ) →
+    (first ≡ Some place) ↔ IsFirstDifference recorded found place
 difference recorded found None each compared place = (
   λ some. absurd (cc),
   λ first. absurd (first.here (ap (λ list. slice_get list place) (all_same recorded found each compared))),
@@ -129,16 +133,19 @@ module _ (before now : Story) (events : List Event) (recorded : List Outcome) (c
     as_many : length recorded ≡ length (outcomes_from (state_of before) events)
     as_many = each ∙ sym (length-outcomes_from (state_of before) events)
 
-    through : Compared recorded (outcomes_from (state_of before) events) (length (outcomes_from (state_of before) events)) first
+    through : Compared recorded (outcomes_from (state_of before) events)
+        (length (outcomes_from (state_of before) events)) first
     through =
         subst (λ n. Compared recorded (outcomes_from (state_of before) events) n first)
         (all ∙ sym (length-outcomes_from (state_of before) events)) compares.so_far
 
     pub followed : now ≡ continued before events
-    followed = compares.story ∙ ap (λ n. continued before (take n events)) all ∙ ap (continued before) (take-length events)
+    followed =
+        compares.story ∙ ap (λ n. continued before (take n events)) all ∙ ap (continued before) (take-length events)
 
     pub all_agree : (first ≡ None) ↔ (recorded ≡ outcomes_from (state_of before) events)
     all_agree = agreement recorded (outcomes_from (state_of before) events) first as_many through
 
-    pub first_differs : (place : ℕ) → (first ≡ Some place) ↔ IsFirstDifference recorded (outcomes_from (state_of before) events) place
+    pub first_differs : (place : ℕ) →
+        (first ≡ Some place) ↔ IsFirstDifference recorded (outcomes_from (state_of before) events) place
     first_differs = difference recorded (outcomes_from (state_of before) events) first as_many through

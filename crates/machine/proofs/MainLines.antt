@@ -19,7 +19,8 @@ first_lines program config = refl
 
 -- one event behind others
 lines_through-push : (state : ModelState) (made : List Event) (event : Event) (lines : List (List ℕ)) →
-    lines_through state (made ++ event ∷ []) lines ≡ lines_from (state_after state made) event (lines_through state made lines)
+    lines_through state (made ++ event ∷ []) lines ≡ lines_from (state_after state made) event
+    (lines_through state made lines)
 lines_through-push state [] event lines = refl
 lines_through-push state (one ∷ made) event lines =
     lines_through-push (next state one).state made event (lines_from state one lines)

@@ -57,6 +57,7 @@ pub openings_apart : (program other : Program) (config settings : Config) →
 unfolding opening_of
 openings_apart program other config settings same =
     let parts : (config_numbers config ≡ config_numbers settings) × (program_numbers program ≡ program_numbers other) =
-    parts_apart (config_numbers config) (config_numbers settings) (program_numbers program) (program_numbers other) refl same in
+    parts_apart (config_numbers config) (config_numbers settings) (program_numbers program)
+    (program_numbers other) refl same in
     let mode : config.mode ≡ settings.mode = modes_apart config.mode settings.mode (grind (arith, parts)) in
     (programs_apart program other (grind (arith, parts)), grind (arith, parts, mode))

@@ -10,7 +10,8 @@ use Rattle.el_base.specs.Winners.{winner_over}
 use Rattle.el_model.specs.Next.{next}
 use Rattle.engine.specs.Parts.{Parts}
 use Rattle.machine.proofs.Laws.Continued.{state_of_continued}
-use Rattle.machine.specs.Promises.{Change, EndsAreNamed, EndsIt, HeadOfLeastIsServed, KeepsPromises, OthersAreUntouched, ReleasesTakeEffect, change}
+use Rattle.machine.specs.Promises.{Change, EndsAreNamed, EndsIt, HeadOfLeastIsServed, KeepsPromises, OthersAreUntouched}
+use Rattle.machine.specs.Promises.{ReleasesTakeEffect, change}
 use Rattle.machine.specs.Stands.{IsGiven, MachineStands}
 use Rattle.machine.specs.Story.{Story, continued, state_of}
 use Rattle.progress_laws.proofs.Laws.LineOfLeast.{line_of_least_stamp_moves_on}
@@ -30,12 +31,14 @@ made story event =
 
 ends : (story : Story) (room : ℕ) (event : Event) → IsGiven story room → EndsAreNamed (made story event)
 ends story room event given h live over =
-    by (what_ends_a_section story.program story.config (events story.entries) event h given.one_hart_each given.in_range live over)
+    by (what_ends_a_section story.program story.config (events story.entries) event h given.one_hart_each
+    given.in_range live over)
   where
     outcome : Outcome
     outcome = (next (state_of story) event).outcome
 
-    by : EndsItself (state_of story) event h ⊎ IsBeaten (state_of story) event h → EndsIt event outcome h ⊎ IsSome (winner_over outcome h)
+    by : EndsItself (state_of story) event h ⊎ IsBeaten (state_of story) event h →
+        EndsIt event outcome h ⊎ IsSome (winner_over outcome h)
     by (inl itself) = inl (record { own = itself.own; step = itself.step; how = itself.how })
     by (inr beaten) = inr (subst IsSome (sym beaten.names) refl)
 
@@ -46,21 +49,27 @@ head story event removal h line first waits is_first kind own =
 
 release : (story : Story) (event : Event) → ReleasesTakeEffect story.config.long (made story event)
 release story event section step live free short comes =
-    let done = releases_commit story.program story.config (events story.entries) event section step live free short comes in
+    let done =
+    releases_commit story.program story.config (events story.entries) event section step live free short comes in
     record { outcome = done.outcome; committed = done.committed }
 
 others : (story : Story) (room : ℕ) (event : Event) → IsGiven story room → OthersAreUntouched (made story event)
 others story room event given h section other live goes_on =
     let survives =
-    survivors_keep_what_they_show story.program story.config (events story.entries) event h section given.bytes other live goes_on in
+    survivors_keep_what_they_show story.program story.config (events story.entries) event h section given.bytes
+    other live goes_on in
     record { same = survives.keeps.same; shows = survives.shows }
 
 -- each event keeps these promises
 keeps : (story : Story) (room : ℕ) (event : Event) → IsGiven story room → KeepsPromises story.config (made story event)
 keeps story room event given = record {
   ends = ends story room event given;
-  losers = λ removal h winner. losers_lose_to_earlier story.program story.config (events story.entries) event h winner removal;
-  least = λ removal h stamp. least_stamp_never_loses story.program story.config (events story.entries) event h stamp removal;
+  losers =
+      λ removal h winner. losers_lose_to_earlier story.program story.config (events story.entries) event
+      h winner removal;
+  least =
+      λ removal h stamp. least_stamp_never_loses story.program story.config (events story.entries) event
+      h stamp removal;
   head = head story event;
   stamps = λ h stamp kept. stamps_are_kept (state_of story) h (event ∷ []) stamp (kept, tt);
   release = release story event;
@@ -70,7 +79,8 @@ keeps story room event given = record {
 -- and so does the machine that makes it
 pub kept_by : (story now later : Story) (parts : Parts) (room : ℕ) (event : Event) (outcome : Outcome) →
     MachineStands story parts room → story ≡ now →
-    later ≡ continued now (event ∷ []) → outcome ≡ (next (state_of now) event).outcome → KeepsPromises now.config (change now event outcome later)
+    later ≡ continued now (event ∷ []) → outcome ≡ (next (state_of now) event).outcome →
+    KeepsPromises now.config (change now event outcome later)
 kept_by story now later parts room event outcome stands same more told =
     subst (λ o. KeepsPromises now.config (change now event o later)) (sym told)
     (subst

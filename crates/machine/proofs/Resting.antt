@@ -1,5 +1,6 @@
 -- events that leave all as it is: the machine stands after them, in the state that it was in
-use Rattle.std.proofs.Common.{◌≡◌, ◌∙◌, ℕ, zero, suc, ◌≤◌, ◌<◌, true, false, List, [], ◌∷◌, ◌++◌, Some, ap, refl, subst, sym, take}
+use Rattle.std.proofs.Common.{◌≡◌, ◌∙◌, ℕ, zero, suc, ◌≤◌, ◌<◌, true, false, List, [], ◌∷◌, ◌++◌, Some, ap, refl, subst}
+use Rattle.std.proofs.Common.{sym, take}
 use Rattle.std.proofs.lemmas.Bool.{false_from_ne_true}
 use Rattle.el_base.specs.declared.events.Event.{Event}
 use Rattle.el_base.specs.declared.hart_id.HartId.{HartId}
@@ -19,9 +20,11 @@ use Rattle.machine.specs.Stands.{MachineStands}
 use Rattle.machine.specs.Story.{Story, continued, left_of, state_of}
 
 -- a machine stands after an event that leaves all as it is
-pub stands_left : (story : Story) (parts : Parts) (room : ℕ) (event : Event) (outcome : Outcome) → MachineStands story parts room →
-    event.hart.number < story.config.harts → 1 ≤ left_of story → Leaves (state_of story) event outcome →
-    MachineStands (record story { entries = story.entries ++ record { event = event; outcome = outcome } ∷ [] }) parts room
+pub stands_left : (story : Story) (parts : Parts) (room : ℕ) (event : Event) (outcome : Outcome) →
+    MachineStands story parts room → event.hart.number < story.config.harts → 1 ≤ left_of story →
+    Leaves (state_of story) event outcome →
+    MachineStands (record story { entries = story.entries ++ record { event = event; outcome = outcome } ∷ [] }) parts
+    room
 stands_left story parts room event outcome stands below left leaves =
     stands_on story parts parts room event outcome stands below left stands.ready
     (subst (λ (turn : Turn). IsInState parts turn.state) (sym leaves.turn) stands.is_in)
@@ -40,7 +43,8 @@ abbrev IsLeftByEach : ModelState → List Event → Type 0
 IsLeftByEach state [] = Unit {0}
 IsLeftByEach state (event ∷ events) = ((next state event).state ≡ state) × IsLeftByEach state events
 
-left_by : (state : ModelState) (event : Event) (outcome : Outcome) → Leaves state event outcome → (next state event).state ≡ state
+left_by : (state : ModelState) (event : Event) (outcome : Outcome) → Leaves state event outcome →
+    (next state event).state ≡ state
 left_by state event outcome leaves = ap (λ (turn : Turn). turn.state) leaves.turn
 
 -- so do the first ones of them
@@ -61,7 +65,8 @@ pub throughout : (story : Story) (hart : HartId) → is_quiet (state_of story) h
     state_of (continued story (take made (bus_events hart))) ≡ state_of story
 throughout story hart quiet made =
     let each = quiet_each (state_of story) hart.number quiet in
-    let left : (event : Event) → finds_nothing (state_of story) event ≡ true → (next (state_of story) event).state ≡ state_of story =
+    let left : (event : Event) → finds_nothing (state_of story) event ≡ true →
+    (next (state_of story) event).state ≡ state_of story =
     λ event nothing. left_by (state_of story) event Idle (nothing_leaves (state_of story) event nothing) in
     state_of_continued story (take made (bus_events hart))
     ∙ after_all (state_of story) (bus_events hart) made (left _ each.0, (left _ each.1, (left _ each.2, tt)))
@@ -77,12 +82,13 @@ throughout_turn story hart blocked waits made =
     (left_by _ _ _ each.step, (left_by _ _ _ each.order, (left_by _ _ _ each.serve, (left_by _ _ _ each.deliver, tt))))
 
 -- what leaves a state leaves one that is the same
-pub left_still : (before now : ModelState) (event : Event) (outcome : Outcome) → now ≡ before → Leaves before event outcome →
-    Leaves now event outcome
+pub left_still : (before now : ModelState) (event : Event) (outcome : Outcome) → now ≡ before →
+    Leaves before event outcome → Leaves now event outcome
 left_still before now event outcome same leaves = subst (λ state. Leaves state event outcome) (sym same) leaves
 
 -- where a hart waits, not every hart has stopped
-pub runs_then : (state : ModelState) (h : ℕ) (blocked : Outcome) → waiting_of state h ≡ Some blocked → is_over state ≡ false
+pub runs_then : (state : ModelState) (h : ℕ) (blocked : Outcome) → waiting_of state h ≡ Some blocked →
+    is_over state ≡ false
 runs_then state h blocked waits =
     false_from_ne_true (is_over state) (λ over. over_stopped state h over (waits_as state h blocked waits).running)
 

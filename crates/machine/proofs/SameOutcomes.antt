@@ -13,7 +13,8 @@ use Rattle.el_base.specs.declared.freed.Freed.{Freed}
 use Rattle.el_base.specs.declared.losers.Losers.{Losers}
 use Rattle.el_base.specs.declared.outcomes.Outcome.{Outcome}
 use Rattle.el_base.specs.declared.outcomes.Outcome.TheVariants.{Idle, Stalled, Missed, Ran, Began, Buffered, Committed}
-use Rattle.el_base.specs.declared.outcomes.Outcome.TheVariants.{RolledBack, Ordered, Served, Blocked, Delivered, Armed, LetGo}
+use Rattle.el_base.specs.declared.outcomes.Outcome.TheVariants.{RolledBack, Ordered, Served, Blocked, Delivered, Armed}
+use Rattle.el_base.specs.declared.outcomes.Outcome.TheVariants.{LetGo}
 use Rattle.el_base.proofs.Laws.Cases.{false_true}
 
 one_losing : (one other : Losers) → of_losers.ghosts.eq one other ≡ true → one ≡ other

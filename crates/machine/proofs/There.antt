@@ -4,8 +4,8 @@ use Rattle.std.specs.Prelude.{IsNone, ◌↔◌}
 use Rattle.std.proofs.lemmas.Bool.{cases_lt}
 use Rattle.coherence.specs.Served.{Copies, HasLine}
 
-pub there_by_byte : (copies : Copies) (line : ℕ) (told : Option ℕ) → (IsNone told ↔ (HasLine copies line → ⊥)) → is_some told ≡ true →
-    HasLine copies line
+pub there_by_byte : (copies : Copies) (line : ℕ) (told : Option ℕ) → (IsNone told ↔ (HasLine copies line → ⊥)) →
+    is_some told ≡ true → HasLine copies line
 there_by_byte copies line None outside some = absurd (cc)
 there_by_byte copies line (Some byte) outside some =
     elim (cases_lt line copies.first) [

@@ -11,8 +11,11 @@ use Rattle.machine.specs.Story.{Story}
 -- after these events from a state on, from left to right
 abbrev pub lines_through : ModelState → List Event → List (List ℕ) → List (List ℕ)
 lines_through state [] lines = lines
-lines_through state (event ∷ events) lines = lines_through (next state event).state events (lines_from state event lines)
+lines_through state (event ∷ events) lines =
+    lines_through (next state event).state events (lines_from state event lines)
 
--- before the first event it is the program's bytes, and each event that writes a line back puts the committed bytes there
+-- before the first event it is the program's bytes, and each event that writes a line back
+-- puts the committed bytes there
 unfoldable pub main_lines : Story → List (List ℕ)
-main_lines story = lines_through (begin story.program story.config) (events story.entries) (lines_at_first story.program)
+main_lines story =
+    lines_through (begin story.program story.config) (events story.entries) (lines_at_first story.program)

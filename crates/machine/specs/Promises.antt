@@ -1,5 +1,6 @@
 -- what one event keeps of live sections, of their stamps and of what other harts see
-use Rattle.std.specs.Prelude.{ℕ, ◌≡◌, ◌≢◌, ◌+◌, ◌==◌, ◌&&◌, ◌||◌, ◌⊎◌, ◌<◌, Bool, true, false, List, None, Some, IsSome, length, slice_index}
+use Rattle.std.specs.Prelude.{ℕ, ◌≡◌, ◌≢◌, ◌+◌, ◌==◌, ◌&&◌, ◌||◌, ◌⊎◌, ◌<◌, Bool, true, false, List, None, Some, IsSome}
+use Rattle.std.specs.Prelude.{length, slice_index}
 use Rattle.bus_order.specs.Order.{Request}
 use Rattle.el_base.specs.declared.config.Config.{Config}
 use Rattle.el_base.specs.declared.config.Mode.TheVariants.{Tlr}
@@ -57,12 +58,13 @@ LosesToLess change = (h winner : ℕ) → winner_over change.outcome h ≡ Some 
 abbrev pub LeastStays : Change → Type 0
 LeastStays change = (h : ℕ) (stamp : Stamp) → HasLeast change.old h stamp → winner_over change.outcome h ≡ None
 
--- where the hart of the least stamp waits for a line, and all messages about that line are delivered, a serve of the line's first request
--- is served, or blocked by a hart that holds the line until its next step
+-- where the hart of the least stamp waits for a line, and all messages about that line are delivered, a serve of the
+-- line's first request is served, or blocked by a hart that holds the line until its next step
 abbrev pub HeadOfLeastIsServed : Change → Type 0
 HeadOfLeastIsServed change =
-    (h line : ℕ) (head : Request) → LeastWaits change.old h line → head_of change.old line ≡ Some head → change.event.kind ≡ kinds.Serve →
-    change.event.hart.number ≡ head.hart → (is_served change.outcome ≡ true) ⊎ IsLocked change.old line change.outcome
+    (h line : ℕ) (head : Request) → LeastWaits change.old h line → head_of change.old line ≡ Some head →
+    change.event.kind ≡ kinds.Serve → change.event.hart.number ≡ head.hart →
+    (is_served change.outcome ≡ true) ⊎ IsLocked change.old line change.outcome
 
 -- a hart keeps its stamp until its attempt closes
 abbrev pub StampsStay : Change → Type 0
@@ -79,14 +81,15 @@ pub record TakesEffect (change : Change) (section : Section) : Type 0 where
 abbrev pub ReleasesTakeEffect : ℕ → Change → Type 0
 ReleasesTakeEffect long change =
     let h = change.event.hart.number in
-    (section : Section) → change.event.kind ≡ kinds.Step → section_of change.old h ≡ Some section → has_request change.old h ≡ false →
-    section.count ≢ long → is_release (shown_in change.old h section) h section.word section.old ≡ true → TakesEffect change section
+    (section : Section) → change.event.kind ≡ kinds.Step → section_of change.old h ≡ Some section →
+    has_request change.old h ≡ false → section.count ≢ long →
+    is_release (shown_in change.old h section) h section.word section.old ≡ true → TakesEffect change section
 
 -- a section that lives on, and whose hart did not step, is as it was and shows the same
 abbrev pub OthersAreUntouched : Change → Type 0
 OthersAreUntouched change =
-    (h : ℕ) (section : Section) → IsNoStepOf h change.event → section_of change.old h ≡ Some section → is_live change.new h ≡ true →
-    IsUntouched change.old change.new h section
+    (h : ℕ) (section : Section) → IsNoStepOf h change.event → section_of change.old h ≡ Some section →
+    is_live change.new h ≡ true → IsUntouched change.old change.new h section
 
 -- all this of one event; what speaks of stamps against others is said of lock removal
 pub record KeepsPromises (config : Config) (change : Change) : Type 0 where
@@ -103,4 +106,5 @@ abbrev pub ShowsStoresOverMemory : ModelState → ℕ → Section → List Entry
 ShowsStoresOverMemory state h section stores =
     (place : ℕ) → place < length state.committed.bytes →
     slice_index (shown_in state h section).bytes place
-    ≡ section_byte stores section.word section.new (byte_in state.committed.base state.committed.bytes) (state.committed.base + place)
+    ≡ section_byte stores section.word section.new (byte_in state.committed.base state.committed.bytes)
+    (state.committed.base + place)

@@ -11,8 +11,8 @@ use Rattle.machine.specs.Story.{Story, state_of}
 use Rattle.rv_flat.specs.Memory.{AreBytes}
 use Rattle.engine.specs.Shows.{IsReady}
 
--- a machine was made of a program, whose memory is bytes, and a configuration for as many harts, and was given events of its harts,
--- no more than that allows, with a place in its history for each step
+-- a machine was made of a program, whose memory is bytes, and a configuration for as many harts, and was given events
+-- of its harts, no more than that allows, with a place in its history for each step
 pub record IsGiven (story : Story) (room : ℕ) : Type 0 where
   pub program : IsProgram story.program
   pub bytes : AreBytes story.program.bytes
@@ -22,8 +22,8 @@ pub record IsGiven (story : Story) (room : ℕ) : Type 0 where
   pub within : length story.entries ≤ story.config.steps
   pub harts_exist : All (λ event. event.hart.number < story.config.harts) (events story.entries)
 
--- its bus is ready, its parts are in the state after these events, with main memory as they have left it, and the entries are those of
--- the definition
+-- its bus is ready, its parts are in the state after these events, with main memory as they have left it, and the
+-- entries are those of the definition
 pub record MachineStands (story : Story) (parts : Parts) (room : ℕ) : Type 0 where
   pub given : IsGiven story room
   pub ready : IsReady parts.bus

@@ -15,11 +15,13 @@ use Rattle.mail.proofs.Laws.OnceEach.{once_each_behind, once_each_filter, once_e
 use Rattle.mail.proofs.Withdrawals.{remaining_numbered}
 
 pub has_any : (items : List messages.Message) (message : messages.Message)
-    → has_message (map numbered items) (numbered message) ≡ list_any (λ other. same_message (numbered other) (numbered message)) items
+    → has_message (map numbered items) (numbered message)
+    ≡ list_any (λ other. same_message (numbered other) (numbered message)) items
 has_any [] message = refl
 has_any (first ∷ items) message = step (same_message (numbered first) (numbered message)) (has_any items message)
   where
-    step : (same : Bool) → has_message (map numbered items) (numbered message) ≡ list_any (λ other. same_message (numbered other) (numbered message)) items
+    step : (same : Bool) → has_message (map numbered items) (numbered message)
+        ≡ list_any (λ other. same_message (numbered other) (numbered message)) items
         → cond same true (has_message (map numbered items) (numbered message))
         ≡ (same || list_any (λ other. same_message (numbered other) (numbered message)) items)
     step true rest = refl
@@ -36,13 +38,15 @@ module _ (box new : Buffer messages.Message) (message : messages.Message) where
       ap (λ n. drop n (box.items ++ message ∷ [])) all_in
 
   pushed_items : new ≡ buffer (keep_last box.capacity (box.items ++ message ∷ [])) box.capacity
-      → IsBox box → has_message (map numbered box.items) (numbered message) ≡ false → new.items ≡ box.items ++ message ∷ []
+      → IsBox box → has_message (map numbered box.items) (numbered message) ≡ false →
+      new.items ≡ box.items ++ message ∷ []
   pushed_items pushed is none = ap (λ b. b.items) pushed ∙ nothing_lost is none
 
   pushed_box : new ≡ buffer (keep_last box.capacity (box.items ++ message ∷ [])) box.capacity
       → IsBox box → has_message (map numbered box.items) (numbered message) ≡ false → IsBox new
   pushed_box pushed is none =
-      let as_numbers = ap (map numbered) (pushed_items pushed is none) ∙ sym (append_of_map numbered box.items (message ∷ [])) in
+      let as_numbers =
+      ap (map numbered) (pushed_items pushed is none) ∙ sym (append_of_map numbered box.items (message ∷ [])) in
       let P : List Message → Type 0 = λ l. IsOnceEach l in
       record {
         places = ap (λ b. b.capacity) pushed ∙ is.places;
@@ -51,7 +55,8 @@ module _ (box new : Buffer messages.Message) (message : messages.Message) where
 
   -- where none of the messages was the same
   pub pushed_unless : (there : Bool) → new ≡ buffer (keep_last box.capacity (box.items ++ message ∷ [])) box.capacity
-      → IsBox box → there ≡ list_any (λ other. same_message (numbered other) (numbered message)) box.items → not there ≡ true → IsBox new
+      → IsBox box → there ≡ list_any (λ other. same_message (numbered other) (numbered message)) box.items →
+      not there ≡ true → IsBox new
   pushed_unless true pushed is asked none = absurd cc
   pushed_unless false pushed is asked none = pushed_box pushed is (has_any box.items message ∙ sym asked)
 
@@ -62,13 +67,15 @@ module _ (box new : Buffer messages.Message) (message : messages.Message) where
       ap (map numbered) (pushed_items pushed is none) ∙ sym (append_of_map numbered box.items (message ∷ []))
       ∙ sym (ap (λ there. cond there (map numbered box.items) (map numbered box.items ++ numbered message ∷ [])) none)
 
-pub known : (items : List messages.Message) (message : messages.Message) → has_message (map numbered items) (numbered message) ≡ true
+pub known : (items : List messages.Message) (message : messages.Message) →
+    has_message (map numbered items) (numbered message) ≡ true
     → map numbered items ≡ posted (map numbered items) (numbered message)
 known items message there =
     sym (ap (λ there. cond there (map numbered items) (map numbered items ++ numbered message ∷ [])) there)
 
 -- the oldest message gone
-pub oldest_of_items : (items : List messages.Message) → option_map numbered (slice_get items 0) ≡ oldest (map numbered items)
+pub oldest_of_items : (items : List messages.Message) →
+    option_map numbered (slice_get items 0) ≡ oldest (map numbered items)
 oldest_of_items [] = refl
 oldest_of_items (first ∷ items) = refl
 
@@ -79,16 +86,20 @@ message_of_items [] place = refl
 message_of_items (first ∷ items) zero = refl
 message_of_items (first ∷ items) (suc place) = message_of_items items place
 
-pub others_of_items : (items : List messages.Message) → map numbered (drop 1 items) ≡ without_oldest (map numbered items)
+pub others_of_items : (items : List messages.Message) →
+    map numbered (drop 1 items) ≡ without_oldest (map numbered items)
 others_of_items [] = refl
 others_of_items (first ∷ items) = refl
 
-pub popped_box : (box new : Buffer messages.Message) → new ≡ buffer (drop 1 box.items) box.capacity → IsBox box → IsBox new
+pub popped_box : (box new : Buffer messages.Message) → new ≡ buffer (drop 1 box.items) box.capacity →
+    IsBox box → IsBox new
 popped_box box new popped is =
     let P : List Message → Type 0 = λ l. IsOnceEach l in
     record {
       places = ap (λ b. b.capacity) popped ∙ is.places;
-      once = subst P (sym (ap (λ b. map numbered b.items) popped ∙ others_of_items box.items)) (once_each_without_oldest (map numbered box.items) is.once);
+      once =
+          subst P (sym (ap (λ b. map numbered b.items) popped ∙ others_of_items box.items))
+          (once_each_without_oldest (map numbered box.items) is.once);
     }
 
 -- some messages withdrawn

@@ -22,7 +22,8 @@ without_probe_filter (Probe other ∷ box) origin = step (other == origin.number
     kept = filter (λ message. not (withdraws (declared.ProbeOf origin) message)) box
 
     step : (own : Bool) → without_probe box origin.number ≡ kept
-        → cond own (without_probe box origin.number) (Probe other ∷ without_probe box origin.number) ≡ cond (not own) (Probe other ∷ kept) kept
+        → cond own (without_probe box origin.number) (Probe other ∷ without_probe box origin.number)
+        ≡ cond (not own) (Probe other ∷ kept) kept
     step true rest = rest
     step false rest = ap (λ l. Probe other ∷ l) rest
 
@@ -48,7 +49,8 @@ markers_remaining items =
     ∙ filter_of_map numbered (λ message. not (withdraws declared.Markers message)) items)
 
 pub remaining_numbered : (withdrawn : withdrawals.Withdrawn) (items : List messages.Message)
-    → filter (λ message. not (withdraws withdrawn message)) (map numbered items) ≡ map numbered (remaining withdrawn items)
+    → filter (λ message. not (withdraws withdrawn message)) (map numbered items)
+    ≡ map numbered (remaining withdrawn items)
 remaining_numbered withdrawn items = filter_of_map numbered (λ message. not (withdraws withdrawn message)) items
 
 -- one turn more
@@ -66,12 +68,14 @@ module _ (withdrawn : withdrawals.Withdrawn) where
   turned_first first others kept = step (withdraws withdrawn (numbered first))
     where
       step : (gone : Bool)
-          → cond gone (others ++ kept) ((others ++ kept) ++ first ∷ []) ≡ others ++ (kept ++ cond (not gone) (first ∷ []) [])
+          → cond gone (others ++ kept) ((others ++ kept) ++ first ∷ [])
+          ≡ others ++ (kept ++ cond (not gone) (first ∷ []) [])
       step true = ap (λ l. others ++ l) (sym (append_nothing kept))
       step false = append_assoc others kept (first ∷ [])
 
   turned_at : (items kept : List messages.Message) (place : ℕ) → place < length items
-      → turned withdrawn (drop place items ++ kept) ≡ drop (suc place) items ++ (kept ++ remaining withdrawn (take 1 (drop place items)))
+      → turned withdrawn (drop place items ++ kept) ≡ drop (suc place) items
+      ++ (kept ++ remaining withdrawn (take 1 (drop place items)))
   turned_at [] kept place within = absurd (omega arith)
   turned_at (first ∷ items) kept zero within = turned_first first items kept
   turned_at (first ∷ items) kept (suc place) within = turned_at items kept place (omega arith)
@@ -93,7 +97,8 @@ module _ (withdrawn : withdrawals.Withdrawn) where
 
       step : (gone : Bool) → before ++ here ≡ remaining withdrawn (take (suc place) items)
           → cond (not gone) (first ∷ before) before ++ here
-          ≡ cond (not gone) (first ∷ remaining withdrawn (take (suc place) items)) (remaining withdrawn (take (suc place) items))
+          ≡ cond (not gone) (first ∷ remaining withdrawn (take (suc place) items))
+          (remaining withdrawn (take (suc place) items))
       step true rest = rest
       step false rest = ap (λ l. first ∷ l) rest
 

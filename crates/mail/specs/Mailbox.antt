@@ -1,5 +1,6 @@
 -- a mailbox: a list of messages, oldest first, none of them twice
-use Rattle.std.specs.Prelude.{ℕ, ◌≤◌, Bool, true, false, count_by, List, [], ◌∷◌, ◌++◌, ◌==◌, Option, None, Some, if◌then◌else◌}
+use Rattle.std.specs.Prelude.{ℕ, ◌≤◌, Bool, true, false, count_by, List, [], ◌∷◌, ◌++◌, ◌==◌, Option, None, Some}
+use Rattle.std.specs.Prelude.{if◌then◌else◌}
 use Rattle.mail.specs.declared.message.Message as messages
 use Rattle.mail.specs.declared.message.Message.TheVariants as declared
 

@@ -1,5 +1,6 @@
 -- the predictor of one hart: counters, and at most one watch
-use Rattle.std.specs.Prelude.{ℕ, ◌+◌, ◌-◌, ◌/◌, ◌%◌, ◌||◌, List, replicate, slice_index, slice_set, Option, None, Some, min, ◌==◌, if◌then◌else◌}
+use Rattle.std.specs.Prelude.{ℕ, ◌+◌, ◌-◌, ◌/◌, ◌%◌, ◌||◌, List, replicate, slice_index, slice_set, Option, None, Some}
+use Rattle.std.specs.Prelude.{min, ◌==◌, if◌then◌else◌}
 use Rattle.pair_table.specs.declared.seen.Seen.{Seen}
 use Rattle.pair_table.specs.declared.verdict.Verdict.{Verdict}
 use Rattle.pair_table.specs.declared.verdict.Verdict.TheVariants.{Up, Down}
@@ -41,7 +42,8 @@ settled predictor pc verdict = record predictor {
 
 -- the predictor with a watch of a candidate that ran, and without any
 abbrev pub watching : Predictor → ℕ → ℕ → ℕ → Predictor
-watching predictor pc word old = record predictor { watch = Some (record { pc = pc; word = word; old = old; count = 1 }) }
+watching predictor pc word old =
+    record predictor { watch = Some (record { pc = pc; word = word; old = old; count = 1 }) }
 
 abbrev pub unwatched : Predictor → Predictor
 unwatched predictor = record predictor { watch = None }
@@ -75,7 +77,8 @@ saw_verdict (Some watch) seen long = verdict_on seen long (counting watch).count
 -- the predictor after one more instruction
 abbrev pub saw_with : Predictor → Option Watch → Seen → ℕ → Predictor
 saw_with predictor None seen long = predictor
-saw_with predictor (Some watch) seen long = judged predictor (counting watch) (verdict_on seen long (counting watch).count)
+saw_with predictor (Some watch) seen long =
+    judged predictor (counting watch) (verdict_on seen long (counting watch).count)
 
 abbrev pub saw_of : Predictor → Seen → ℕ → Predictor
 saw_of predictor seen long = saw_with predictor predictor.watch seen long

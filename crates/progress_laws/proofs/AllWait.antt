@@ -41,12 +41,14 @@ waits_or state orderly h exists =
         status_of state.committed h ≡ Running → X
     not_running status is stopped running = absurd (stopped (sym is ∙ running))
 
-    by : (mail : List Message) → (hart_of state h).mail ≡ mail → (raised : Option Request) → raised_of state h ≡ raised →
-        (ordered : Option Request) → ordered_of state h ≡ ordered → (status : HartStatus) → status_of state.committed h ≡ status →
-        GetsOn state ⊎ OnlyWaits state h
-    by (message ∷ others) is raised asked ordered placed status stands = inl (mail_gets_on state h message others exists is)
+    by : (mail : List Message) → (hart_of state h).mail ≡ mail → (raised : Option Request) →
+        raised_of state h ≡ raised → (ordered : Option Request) → ordered_of state h ≡ ordered → (status : HartStatus) →
+        status_of state.committed h ≡ status → GetsOn state ⊎ OnlyWaits state h
+    by (message ∷ others) is raised asked ordered placed status stands =
+        inl (mail_gets_on state h message others exists is)
     by [] is (Some request) asked ordered placed status stands = inl (raised_gets_on state h request exists asked)
-    by [] is None asked (Some request) placed status stands = inr (record { mail = is; waits = λ running. (request, placed) })
+    by [] is None asked (Some request) placed status stands =
+        inr (record { mail = is; waits = λ running. (request, placed) })
     by [] is None asked None placed Running stands =
         inl (free_gets_on state h orderly.as_many stands (rw (asked, placed) refl))
     by [] is None asked None placed (Exited code) stands =
@@ -61,14 +63,15 @@ past_waits state orderly h past = record {
   waits = λ running. let exists = runs_exists state h orderly.as_many running in absurd (omega (arith, exists, past));
 }
 
-any_waits : (state : ModelState) → Orderly state → ((h : ℕ) → h < length state.harts → OnlyWaits state h) → (h : ℕ) → (below : Bool) →
-    nat_lt h (length state.harts) ≡ below → OnlyWaits state h
+any_waits : (state : ModelState) → Orderly state → ((h : ℕ) → h < length state.harts → OnlyWaits state h) → (h : ℕ) →
+    (below : Bool) → nat_lt h (length state.harts) ≡ below → OnlyWaits state h
 any_waits state orderly each h true is = each h (ltb-true h (length state.harts) is)
 any_waits state orderly each h false is = past_waits state orderly h (ltb-false h (length state.harts) is)
 
 pub gets_on_or_waits : (state : ModelState) → Orderly state → GetsOn state ⊎ ((h : ℕ) → OnlyWaits state h)
 gets_on_or_waits state orderly = by (each_or (OnlyWaits state) (length state.harts) (waits_or state orderly))
   where
-    by : GetsOn state ⊎ ((h : ℕ) → h < length state.harts → OnlyWaits state h) → GetsOn state ⊎ ((h : ℕ) → OnlyWaits state h)
+    by : GetsOn state ⊎ ((h : ℕ) → h < length state.harts → OnlyWaits state h) →
+        GetsOn state ⊎ ((h : ℕ) → OnlyWaits state h)
     by (inl on) = inl on
     by (inr each) = inr (λ h. any_waits state orderly each h (nat_lt h (length state.harts)) refl)

@@ -36,7 +36,8 @@ use Rattle.section_laws.proofs.Laws.Moves.{moved, taken_keeps}
 use Rattle.stamp.specs.Stamps.{Stamp}
 
 -- without stamps each request wins
-each_wins : (mode : Mode) (request section : Option Stamp) → has_stamps mode ≡ false → wins_of mode request section ≡ true
+each_wins : (mode : Mode) (request section : Option Stamp) → has_stamps mode ≡ false →
+    wins_of mode request section ≡ true
 each_wins Tlr request section stampless = false_true (sym stampless)
 each_wins Sle request section stampless = refl
 each_wins Plain request section stampless = refl
@@ -55,17 +56,19 @@ own_unmet head h hart is =
 beaten_out : (mode : Mode) (winner : Option Stamp) (hart : Hart) → (beaten mode winner hart).section ≡ None
 beaten_out Tlr winner hart = refl
 beaten_out Sle winner hart =
-    by_test (λ new. new.section ≡ None) (hart.tries + 1 == most_tries) (record (out_of_section hart) { tries = 0; fallback = true })
+    by_test (λ new. new.section ≡ None) (hart.tries + 1 == most_tries)
+    (record (out_of_section hart) { tries = 0; fallback = true })
     (record (out_of_section hart) { tries = hart.tries + 1 }) (λ last. refl) (λ more. refl)
 beaten_out Plain winner hart =
-    by_test (λ new. new.section ≡ None) (hart.tries + 1 == most_tries) (record (out_of_section hart) { tries = 0; fallback = true })
+    by_test (λ new. new.section ≡ None) (hart.tries + 1 == most_tries)
+    (record (out_of_section hart) { tries = 0; fallback = true })
     (record (out_of_section hart) { tries = hart.tries + 1 }) (λ last. refl) (λ more. refl)
 
-fate_unmet : (state : ModelState) (head : Request) (h : ℕ) (hart : Hart) → has_stamps state.config.mode ≡ false → (meets : Bool) →
-    conflicts head h hart ≡ meets → (wins : Bool) → wins ≡ true →
-    conflicts head h
+fate_unmet : (state : ModelState) (head : Request) (h : ℕ) (hart : Hart) → has_stamps state.config.mode ≡ false →
+    (meets : Bool) → conflicts head h hart ≡ meets → (wins : Bool) → wins ≡ true → conflicts head h
     (after_fate state head
-    (if meets then (if wins then LosesTo head.hart else deferring_fate state.config.mode state head hart) else Unmet) hart) ≡ false
+    (if meets then (if wins then LosesTo head.hart else deferring_fate state.config.mode state head hart) else Unmet)
+    hart) ≡ false
 fate_unmet state head h hart stampless false is wins all = is
 fate_unmet state head h hart stampless true is true all =
     dead_unmet head h (after_fate state head (LosesTo head.hart) hart)
@@ -75,7 +78,8 @@ fate_unmet state head h hart stampless true is false all = false_true all
 faced_hart_unmet : (state : ModelState) (head : Request) (h : ℕ) (hart : Hart) → has_stamps state.config.mode ≡ false →
     conflicts head h (faced_hart state head h hart) ≡ false
 faced_hart_unmet state head h hart stampless =
-    by_test (λ new. conflicts head h new ≡ false) (h == head.hart) (post_all hart (markers_for state.config.mode state head))
+    by_test (λ new. conflicts head h new ≡ false) (h == head.hart)
+    (post_all hart (markers_for state.config.mode state head))
     (after_fate state head (fate_of state head h hart) hart)
     (λ own. own_unmet head h (post_all hart (markers_for state.config.mode state head)) own)
     (λ other.
@@ -89,7 +93,8 @@ faced_unmet_by state head h stampless true is =
     rw (hart_of-each_hart state (faced_hart state head) h (ltb-true h (length state.harts) is))
     (faced_hart_unmet state head h (hart_of state h) stampless)
 faced_unmet_by state head h stampless false is =
-    rw (hart_of-each_hart_past state (faced_hart state head) h (ltb-false h (length state.harts) is)) (dead_unmet head h (new_hart 0) refl)
+    rw (hart_of-each_hart_past state (faced_hart state head) h (ltb-false h (length state.harts) is))
+    (dead_unmet head h (new_hart 0) refl)
 
 pub faced_unmet : (state : ModelState) (head : Request) (h : ℕ) → has_stamps state.config.mode ≡ false →
     conflicts head h (hart_of (faced state head) h) ≡ false
@@ -121,8 +126,10 @@ fits state request =
 
 other_heads : (state : ModelState) (request : Request) (place : Place) (line : ℕ) → line ≢ request.line →
     first_of (order_at state request place) line ≡ head_of state line
-other_heads state request InFront line other = first_of_in_front_of_other state.order request line (λ same. other (sym same))
-other_heads state request Behind line other = first_of_appended_other state.order request line (λ same. other (sym same))
+other_heads state request InFront line other =
+    first_of_in_front_of_other state.order request line (λ same. other (sym same))
+other_heads state request Behind line other =
+    first_of_appended_other state.order request line (λ same. other (sym same))
 other_heads state request Alone line other = first_of_appended_other state.order request line (λ same. other (sym same))
 
 first_stays : {A : Type 0} (one other : Option A) → is_some one ≡ true → option_or one other ≡ one
@@ -135,7 +142,8 @@ record HeadStays (state : ModelState) (by : ℕ) (start : Start) (line : ℕ) : 
   fewer : (h : ℕ) → Fewer line (hart_of state h) (started state by start h (hart_of state h))
 
 abbrev HeadAfter : ModelState → ℕ → Start → ℕ → Type 0
-HeadAfter state by start line = HeadStays state by start line ⊎ (first_of (order_after state start) line ≡ faced_head state start)
+HeadAfter state by start line =
+    HeadStays state by start line ⊎ (first_of (order_after state start) line ≡ faced_head state start)
 
 as_before : (state : ModelState) (line h : ℕ) → Fewer line (hart_of state h) (hart_of state h)
 as_before state line h = fewer_same line (hart_of state h) (hart_of state h) refl refl
@@ -155,7 +163,8 @@ own_head state by request Behind fit =
       same = first_of_appended_own state.order request ∙ first_stays (head_of state request.line) (Some request) fit;
       fewer = placed_fewer state by request Behind request.line;
     })
-own_head state by request Alone fit = inr (first_of_appended_own state.order request ∙ ap (λ head. option_or head (Some request)) fit)
+own_head state by request Alone fit =
+    inr (first_of_appended_own state.order request ∙ ap (λ head. option_or head (Some request)) fit)
 
 head_after : (state : ModelState) (by : ℕ) (start : Start) → StartsWhere state by start → IsOneEach state.order →
     (line : ℕ) →
@@ -164,8 +173,13 @@ head_after state by Nothing where_it once line = inl (record { same = refl; fewe
 head_after state by (Places request place) may once line = by_line (cases_eq line request.line)
   where
     by_line : (line ≡ request.line) ⊎ (line ≡ request.line → ⊥) → HeadAfter state by (Places request place) line
-    by_line (inl same) = rw same (own_head state by request place (subst (Fits state request) (sym may.place_is) (fits state request)))
-    by_line (inr other) = inl (record { same = other_heads state request place line other; fewer = placed_fewer state by request place line })
+    by_line (inl same) =
+        rw same (own_head state by request place (subst (Fits state request) (sym may.place_is) (fits state request)))
+    by_line (inr other) =
+        inl (record {
+          same = other_heads state request place line other;
+          fewer = placed_fewer state by request place line;
+        })
 head_after state by (Serves request) may once line = by_line (cases_eq line request.line)
   where
     mine : ordered_of state request.hart ≡ Some request
@@ -178,7 +192,8 @@ head_after state by (Serves request) may once line = by_line (cases_eq line requ
           same = first_of_removed_other state.order request.hart line request once mine (λ same. other (sym same));
           fewer = λ h.
               by_hart (Fewer line (hart_of state h)) h request.hart (served_hart state request (hart_of state h))
-              (bystander state request (hart_of state h)) (λ own. served_fewer state request (hart_of state h) line other)
+              (bystander state request (hart_of state h))
+              (λ own. served_fewer state request (hart_of state h) line other)
               (λ apart. bystander_fewer state request (hart_of state h) line);
         })
 head_after state by (Takes message others) where_it once line =
@@ -186,14 +201,16 @@ head_after state by (Takes message others) where_it once line =
       same = refl;
       fewer = λ h.
           by_hart (Fewer line (hart_of state h)) h by (having_taken message others (hart_of state h)) (hart_of state h)
-          (λ own. taken_keeps (fewer_moves line (hart_of state)) message others h (hart_of state h) (as_before state line h))
+          (λ own. taken_keeps (fewer_moves line (hart_of state)) message others h (hart_of state h)
+          (as_before state line h))
           (λ other. as_before state line h);
     })
 
 pub bus_unretained : {state : ModelState} {by : ℕ} {turn : Turn} → IsBusEvent state by turn →
     has_stamps state.config.mode ≡ false →
     IsOneEach state.order → NoneRetains state → NoneRetains turn.state
-bus_unretained {state} {by} {turn} done stampless once none h line = by_head (head_after state by done.start done.where_it once line)
+bus_unretained {state} {by} {turn} done stampless once none h line =
+    by_head (head_after state by done.start done.where_it once line)
   where
     new_head : head_of turn.state line ≡ first_of (order_after state done.start) line
     new_head = ap (λ order. first_of order line) done.order
@@ -209,7 +226,9 @@ bus_unretained {state} {by} {turn} done stampless once none h line = by_head (he
     by_head : HeadAfter state by done.start line → retains turn.state h line ≡ false
     by_head (inl stays) =
         same_head state turn.state h line
-        (moved (fewer_moves line (hart_of state)) state by done.start h (λ past. as_before state line h) (λ below. stays.fewer h) (done.becomes h))
+        (moved (fewer_moves line (hart_of state)) state by done.start h (λ past. as_before state line h)
+        (λ below. stays.fewer h) (done.becomes h))
         (new_head ∙ stays.same) (none h line)
     by_head (inr faced) =
-        ap (λ head. conflicts_with head h (hart_of turn.state h)) (new_head ∙ faced) ∙ met (faced_head state done.start) refl
+        ap (λ head. conflicts_with head h (hart_of turn.state h)) (new_head ∙ faced)
+        ∙ met (faced_head state done.start) refl

@@ -1,5 +1,6 @@
 -- of the stamps that some numbers have, one is least, unless none has any
-use Rattle.std.proofs.Common.{◌≡◌, ◌∙◌, ℕ, zero, suc, ◌<◌, Bool, true, false, Option, None, Some, refl, ap, sym, subst, inl, inr, ◌⊎◌, arith}
+use Rattle.std.proofs.Common.{◌≡◌, ◌∙◌, ℕ, zero, suc, ◌<◌, Bool, true, false, Option, None, Some, refl, ap, sym, subst}
+use Rattle.std.proofs.Common.{inl, inr, ◌⊎◌, arith}
 use Rattle.std.proofs.lemmas.Bool.{cases_eq}
 use Rattle.stamp.specs.Stamps.{Stamp, is_before, less_of}
 use Rattle.stamp.proofs.Laws.StampOrder.{less_strict}
@@ -20,8 +21,8 @@ not_itself : (value : Stamp) → is_before (Some value) (Some value) ≡ false
 not_itself value = less_strict.irreflexive value
 
 -- what is not before a stamp is not before a less one
-not_before_less : (one : Option Stamp) (less greater : Stamp) → less_of less greater ≡ true → is_before one (Some greater) ≡ false →
-    is_before one (Some less) ≡ false
+not_before_less : (one : Option Stamp) (less greater : Stamp) → less_of less greater ≡ true →
+    is_before one (Some greater) ≡ false → is_before one (Some less) ≡ false
 not_before_less None less greater before not_before = refl
 not_before_less (Some one) less greater before not_before = by (less_of one less) refl
   where
@@ -38,7 +39,8 @@ module _ (stamp : ℕ → Option Stamp) where
       by (inl same) = subst P (sym same) last
       by (inr apart) = others k (omega (arith, below, apart))
 
-  least_more : (n : ℕ) (last : Option Stamp) → stamp n ≡ last → NoStamp stamp n ⊎ Least stamp n → NoStamp stamp (suc n) ⊎ Least stamp (suc n)
+  least_more : (n : ℕ) (last : Option Stamp) → stamp n ≡ last → NoStamp stamp n ⊎ Least stamp n →
+      NoStamp stamp (suc n) ⊎ Least stamp (suc n)
   least_more n None is (inl none) = inl (at_limit (λ k. stamp k ≡ None) n is none)
   least_more n None is (inr least) = inr (record {
     number = least.number;
@@ -46,7 +48,8 @@ module _ (stamp : ℕ → Option Stamp) where
     below = let below = least.below in omega (arith, below);
     is = least.is;
     least =
-        at_limit (λ k. is_before (stamp k) (Some least.value) ≡ false) n (ap (λ s. is_before s (Some least.value)) is) least.least;
+        at_limit (λ k. is_before (stamp k) (Some least.value) ≡ false) n
+        (ap (λ s. is_before s (Some least.value)) is) least.least;
   })
   least_more n (Some value) is (inl none) = inr (record {
     number = n;
@@ -54,7 +57,8 @@ module _ (stamp : ℕ → Option Stamp) where
     below = omega arith;
     is = is;
     least =
-        at_limit (λ k. is_before (stamp k) (Some value) ≡ false) n (ap (λ s. is_before s (Some value)) is ∙ not_itself value)
+        at_limit (λ k. is_before (stamp k) (Some value) ≡ false) n
+        (ap (λ s. is_before s (Some value)) is ∙ not_itself value)
         (λ k below. ap (λ s. is_before s (Some value)) (none k below));
   })
   least_more n (Some value) is (inr least) = inr (by (less_of value least.value) refl)
@@ -66,7 +70,8 @@ module _ (stamp : ℕ → Option Stamp) where
         below = omega arith;
         is = is;
         least =
-            at_limit (λ k. is_before (stamp k) (Some value) ≡ false) n (ap (λ s. is_before s (Some value)) is ∙ not_itself value)
+            at_limit (λ k. is_before (stamp k) (Some value) ≡ false) n
+            (ap (λ s. is_before s (Some value)) is ∙ not_itself value)
             (λ k below. not_before_less (stamp k) value least.value before (least.least k below));
       }
       by false later = record {
@@ -75,7 +80,8 @@ module _ (stamp : ℕ → Option Stamp) where
         below = let below = least.below in omega (arith, below);
         is = least.is;
         least =
-            at_limit (λ k. is_before (stamp k) (Some least.value) ≡ false) n (ap (λ s. is_before s (Some least.value)) is ∙ later)
+            at_limit (λ k. is_before (stamp k) (Some least.value) ≡ false) n
+            (ap (λ s. is_before s (Some least.value)) is ∙ later)
             least.least;
       }
 

@@ -1,4 +1,5 @@
--- in lock removal, where every hart that runs waits and no message is under way, no section retains the line of the least stamp
+-- in lock removal, where every hart that runs waits and no message is under way, no section
+-- retains the line of the least stamp
 use Rattle.std.proofs.Common.{◌≡◌, ◌≢◌, ◌∙◌, ◌≤◌, ◌↔◌, ℕ, Bool, true, false, List, [], ◌∷◌}
 use Rattle.std.proofs.Common.{Option, None, Some, is_some, length, refl, ap, sym, inl, inr, ◌⊎◌, if◌then◌else◌}
 use Rattle.std.proofs.lemmas.Bool.{false_from_ne_true}
@@ -37,7 +38,8 @@ record WaitsWithStamp (state : ModelState) (h : ℕ) : Type 0 where
   attempt : attempt_of state h ≡ Some stamp
   stamp_is : request.stamp ≡ Some stamp
 
-on_its_line : (state : ModelState) (h : ℕ) (request : Request) → ordered_of state h ≡ Some request → ordered_on state h request.line ≡ Some request
+on_its_line : (state : ModelState) (h : ℕ) (request : Request) → ordered_of state h ≡ Some request →
+    ordered_on state h request.line ≡ Some request
 on_its_line state h request is =
     ap (for_line request.line) is ∙ ap (λ test. if test then Some request else None) (own_test request.line)
 
@@ -49,10 +51,11 @@ retainer_live state g line = by (head_of state line)
     by None retained = false_true retained
     by (Some head) retained = (meets head g (hart_of state g) retained).live
 
-module _ (state : ModelState) (facts : Facts Everywhere state) (orderly : Orderly state) (waits : (h : ℕ) → OnlyWaits state h) where
+module _ (state : ModelState) (facts : Facts Everywhere state) (orderly : Orderly state)
+    (waits : (h : ℕ) → OnlyWaits state h) where
   -- a hart with a live section runs, so it waits, with the stamp of its attempt
-  with_stamp : (g : ℕ) (attempt : Option Stamp) → attempt_of state g ≡ attempt → is_some attempt ≡ true → (request : Request) →
-      ordered_of state g ≡ Some request → WaitsWithStamp state g
+  with_stamp : (g : ℕ) (attempt : Option Stamp) → attempt_of state g ≡ attempt → is_some attempt ≡ true →
+      (request : Request) → ordered_of state g ≡ Some request → WaitsWithStamp state g
   with_stamp g None is some request ordered = false_true some
   with_stamp g (Some stamp) is some request ordered = record {
     request = request;
@@ -74,8 +77,9 @@ module _ (state : ModelState) (facts : Facts Everywhere state) (orderly : Orderl
   }
 
   -- a stamp that none is before is before that of each other hart
-  before_others : (h g : ℕ) (request : Request) (value stamp : Stamp) → ordered_of state h ≡ Some request → request.stamp ≡ Some value →
-      attempt_of state g ≡ Some stamp → g ≢ h → less_of stamp value ≡ false → less_of value stamp ≡ true
+  before_others : (h g : ℕ) (request : Request) (value stamp : Stamp) → ordered_of state h ≡ Some request →
+      request.stamp ≡ Some value → attempt_of state g ≡ Some stamp → g ≢ h → less_of stamp value ≡ false →
+      less_of value stamp ≡ true
   before_others h g request value stamp ordered stamped attempt apart later = by (less_of value stamp) refl
     where
       mine : value.hart ≡ h
@@ -87,7 +91,8 @@ module _ (state : ModelState) (facts : Facts Everywhere state) (orderly : Orderl
           let same = less_strict.total value stamp is later in
           absurd (apart (sym (facts.stamped.own g stamp attempt) ∙ sym (ap (λ s. s.hart) same) ∙ mine))
 
-  waits_with_least : (h : ℕ) (request : Request) (value : Stamp) → ordered_of state h ≡ Some request → request.stamp ≡ Some value →
+  waits_with_least : (h : ℕ) (request : Request) (value : Stamp) → ordered_of state h ≡ Some request →
+      request.stamp ≡ Some value →
       ((g : ℕ) (other : Request) → ordered_of state g ≡ Some other → is_before other.stamp (Some value) ≡ false) →
       WaitsWithLeast state h request.line request
   waits_with_least h request value ordered stamped least = record {
@@ -111,27 +116,32 @@ module _ (state : ModelState) (facts : Facts Everywhere state) (orderly : Orderl
           (not_retained state least.number request.line request orderly.once facts
           (waits_with_least least.number request least.value is (sym (ap stamp_in is) ∙ least.is)
           (λ k other ordered.
-          sym (ap (λ found. is_before (stamp_in found) (Some least.value)) ordered) ∙ least.least k (facts.exists k other ordered)))
+          sym (ap (λ found. is_before (stamp_in found) (Some least.value)) ordered)
+          ∙ least.least k (facts.exists k other ordered)))
           (delivered request.line))
 
   -- where none does, there is no section
   none_live : NoStamp (waiting_stamp state) (length state.harts) → (g : ℕ) → is_live state g ≡ true → ⊥
   none_live none g live =
       let waiting = live_waits g live in
-      none_some (sym (none g (facts.exists g waiting.request waiting.ordered)) ∙ ap stamp_in waiting.ordered ∙ waiting.stamp_is)
+      none_some (sym (none g (facts.exists g waiting.request waiting.ordered)) ∙ ap stamp_in waiting.ordered
+      ∙ waiting.stamp_is)
 
-  none_gets_on : NoStamp (waiting_stamp state) (length state.harts) → (h : ℕ) → status_of state.committed h ≡ Running → GetsOn state
+  none_gets_on : NoStamp (waiting_stamp state) (length state.harts) → (h : ℕ) →
+      status_of state.committed h ≡ Running → GetsOn state
   none_gets_on none h running =
       let found = (waits h).waits running in
       line_gets_on state h found.0 orderly found.1
-      (λ g. false_from_ne_true (retains state g found.0.line) (λ retained. none_live none g (retainer_live state g found.0.line retained)))
+      (λ g. false_from_ne_true (retains state g found.0.line)
+      (λ retained. none_live none g (retainer_live state g found.0.line retained)))
 
 pub removal_gets_on : (state : ModelState) → Facts Everywhere state → Orderly state → (h : ℕ) →
     status_of state.committed h ≡ Running → GetsOn state
 removal_gets_on state facts orderly h running = by (gets_on_or_waits state orderly)
   where
     by_stamp : (waits : (k : ℕ) → OnlyWaits state k) →
-        NoStamp (waiting_stamp state) (length state.harts) ⊎ Least (waiting_stamp state) (length state.harts) → GetsOn state
+        NoStamp (waiting_stamp state) (length state.harts) ⊎ Least (waiting_stamp state) (length state.harts) →
+        GetsOn state
     by_stamp waits (inl none) = none_gets_on state facts orderly waits none h running
     by_stamp waits (inr least) = least_gets_on state facts orderly waits least
 
@@ -139,7 +149,8 @@ removal_gets_on state facts orderly h running = by (gets_on_or_waits state order
     by (inl on) = on
     by (inr waits) = by_stamp waits (least_below (waiting_stamp state) (length state.harts))
 
--- where all harts have stopped no message is left: the addressee of a marker and the origin of a probe have ordered requests
+-- where all harts have stopped no message is left: the addressee of a marker and the origin
+-- of a probe have ordered requests
 marker_there : (before : ℕ) (others : List Message) → has_message (Marker before ∷ others) (Marker before) ≡ true
 marker_there before others = rw (own_test before) refl
 
@@ -149,11 +160,13 @@ probe_there origin others = rw (own_test origin) refl
 waiting_runs : (state : ModelState) (h : ℕ) → Orderly state → IsWaiting state h → status_of state.committed h ≡ Running
 waiting_runs state h orderly waits = by (ordered_of state h) refl waits
   where
-    by : (ordered : Option Request) → ordered_of state h ≡ ordered → is_some ordered ≡ true → status_of state.committed h ≡ Running
+    by : (ordered : Option Request) → ordered_of state h ≡ ordered → is_some ordered ≡ true →
+        status_of state.committed h ≡ Running
     by None is some = false_true some
     by (Some request) is some = ordered_runs state h request orderly.sound is
 
-pub no_mail_where_over : (state : ModelState) → Facts Everywhere state → Orderly state → is_over state ≡ true → NoMail state
+pub no_mail_where_over : (state : ModelState) → Facts Everywhere state → Orderly state →
+    is_over state ≡ true → NoMail state
 no_mail_where_over state facts orderly over h = by (hart_of state h).mail refl
   where
     never : (g : ℕ) → IsWaiting state g → (hart_of state h).mail ≡ []
@@ -163,10 +176,12 @@ no_mail_where_over state facts orderly over h = by (hart_of state h).mail refl
     by [] is = is
     by (Marker before ∷ others) is =
         never h
-        (facts.messages.before h before (inl (ap (λ mail. has_message mail (Marker before)) is ∙ marker_there before others))).waits
+        (facts.messages.before h before
+        (inl (ap (λ mail. has_message mail (Marker before)) is ∙ marker_there before others))).waits
     by (Probe origin ∷ others) is =
         never origin
-        (facts.messages.known h origin (inl (ap (λ mail. has_message mail (Probe origin)) is ∙ probe_there origin others))).waits
+        (facts.messages.known h origin
+        (inl (ap (λ mail. has_message mail (Probe origin)) is ∙ probe_there origin others))).waits
 
 pub removal_not_stuck : (state : ModelState) → Facts Everywhere state → Orderly state → length state.harts ≤ 8 →
     (ready_event state ≡ None) ↔ (is_over state ≡ true)

@@ -1,6 +1,7 @@
 -- a step gives no section a bit that the head of the line conflicts with
 use Rattle.std.proofs.Common.{◌≡◌, ◌≢◌, ◌∙◌, ℕ, ◌+◌, Bool, true, false, ◌&&◌, ◌||◌, ◌==◌, not, List, []}
-use Rattle.std.proofs.Common.{◌∷◌, Option, None, Some, is_some, option_map, refl, ap, sym, subst, inl, inr, ◌⊎◌, if◌then◌else◌}
+use Rattle.std.proofs.Common.{◌∷◌, Option, None, Some, is_some, option_map, refl, ap, sym, subst, inl, inr, ◌⊎◌}
+use Rattle.std.proofs.Common.{if◌then◌else◌}
 use Rattle.std.proofs.lemmas.Bool.{cases_eq}
 use Rattle.bus_order.specs.Order.{Request, first_of}
 use Rattle.bus_order.proofs.Laws.Queues.{line_of_first_of}
@@ -13,7 +14,8 @@ use Rattle.el_base.specs.declared.outcomes.Need.{Need}
 use Rattle.el_base.specs.declared.outcomes.Need.TheVariants.{Read, Write}
 use Rattle.el_base.proofs.Laws.Cases.{false_true, true_false}
 use Rattle.el_base.proofs.Laws.Tests.{first_not, second_not}
-use Rattle.el_model.specs.Conflicts.{conflicts, conflicts_with, is_asked, is_wanted, is_wanted_to_write, is_write, meets_bit, writes}
+use Rattle.el_model.specs.Conflicts.{conflicts, conflicts_with, is_asked, is_wanted, is_wanted_to_write, is_write}
+use Rattle.el_model.specs.Conflicts.{meets_bit, writes}
 use Rattle.el_model.specs.Deed.{Arms, Begins, Buffers, Commits, Continues, Deed, DoesWhere, Elides, IsCoverable, LetsGo}
 use Rattle.el_model.specs.Deed.{MayBuffer, Misses, Rests, RollsBack, Runs, Waits, hart_after, permits}
 use Rattle.el_model.specs.InSection.{buffered_hart, is_covered}
@@ -34,8 +36,9 @@ use Rattle.el_model.proofs.Laws.HartParts.{candidate_section}
 use Rattle.el_model.proofs.Laws.Orders.{head_line}
 
 -- what nobody else asks of a line, its head does not ask
-asked_first : (counts : Request → Bool) (order : List Request) (h line : ℕ) (head : Request) → is_asked counts order h line ≡ false →
-    first_of order line ≡ Some head → (not (head.hart == h) && counts head) ≡ false
+asked_first : (counts : Request → Bool) (order : List Request) (h line : ℕ) (head : Request) →
+    is_asked counts order h line ≡ false → first_of order line ≡ Some head →
+    (not (head.hart == h) && counts head) ≡ false
 asked_first counts [] h line head unasked first = absurd (cc)
 asked_first counts (request ∷ order) h line head unasked first =
     by (request.line == line) (asked_first counts order h line head) unasked first
@@ -49,12 +52,15 @@ asked_first counts (request ∷ order) h line head unasked first =
     behind other counted rest is = is
 
     by : (on_line : Bool) →
-        (is_asked counts order h line ≡ false → first_of order line ≡ Some head → (not (head.hart == h) && counts head) ≡ false) →
+        (is_asked counts order h line ≡ false → first_of order line ≡ Some head →
+        (not (head.hart == h) && counts head) ≡ false) →
         (((on_line && not (request.hart == h)) && counts request) || is_asked counts order h line) ≡ false →
-        (if on_line then Some request else first_of order line) ≡ Some head → (not (head.hart == h) && counts head) ≡ false
+        (if on_line then Some request else first_of order line) ≡ Some head →
+        (not (head.hart == h) && counts head) ≡ false
     by true rest unasked first =
         let same : request ≡ head = cc in
-        subst (λ r. (not (r.hart == h) && counts r) ≡ false) same (here (not (request.hart == h)) (counts request) _ unasked)
+        subst (λ r. (not (r.hart == h) && counts r) ≡ false) same
+        (here (not (request.hart == h)) (counts request) _ unasked)
     by false rest unasked first = rest (behind (not (request.hart == h)) (counts request) _ unasked) first
 
 unmet_by : (other live meets : Bool) → meets ≡ false → ((other && live) && meets) ≡ false
@@ -63,8 +69,8 @@ unmet_by true false meets is = refl
 unmet_by false live meets is = refl
 
 -- where no other hart's request would conflict with a new bit, the head does not
-pub new_bit_unmet : (state : ModelState) (h : ℕ) (head : Request) (need : Need) (new : Hart) → head_of state head.line ≡ Some head →
-    is_wanted state h head.line need ≡ false →
+pub new_bit_unmet : (state : ModelState) (h : ℕ) (head : Request) (need : Need) (new : Hart) →
+    head_of state head.line ≡ Some head → is_wanted state h head.line need ≡ false →
     (not (head.hart == h) ≡ true → head.need ≡ Read → need ≡ Read → write_bit new.cache head.line ≡ false) →
     conflicts head h new ≡ false
 new_bit_unmet state h head need new first unwanted unwritten = by (not (head.hart == h)) refl need refl head.need refl
@@ -73,10 +79,14 @@ new_bit_unmet state h head need new first unwanted unwritten = by (not (head.har
         ((other && is_some new.section) && meets_bit new head.line head.need) ≡ false
     by false apart n is asked asks = refl
     by true apart Write is asked asks =
-        let none = asked_first (λ r. true) state.order h head.line head (sym (ap (is_wanted state h head.line) is) ∙ unwanted) first in
+        let none =
+        asked_first (λ r. true) state.order h head.line head
+        (sym (ap (is_wanted state h head.line) is) ∙ unwanted) first in
         true_false (sym (ap (λ other. other && true) apart) ∙ none)
     by true apart Read is Write asks =
-        let none = asked_first is_write state.order h head.line head (sym (ap (is_wanted state h head.line) is) ∙ unwanted) first in
+        let none =
+        asked_first is_write state.order h head.line head
+        (sym (ap (is_wanted state h head.line) is) ∙ unwanted) first in
         true_false (sym (ap (λ other. other && writes head.need) apart ∙ ap writes asks) ∙ none)
     by true apart Read is Read asks =
         unmet_by true (is_some new.section) (meets_bit new head.line head.need)
@@ -97,7 +107,8 @@ marked_unmet state h line need new unwanted unwritten others l = at (cases_eq l 
     here None none = refl
     here (Some head) first =
         let own : head.line ≡ line = line_of_first_of state.order line head first in
-        new_bit_unmet state h head need new (ap (head_of state) own ∙ first) (ap (λ k. is_wanted state h k need) own ∙ unwanted)
+        new_bit_unmet state h head need new (ap (head_of state) own ∙ first)
+        (ap (λ k. is_wanted state h k need) own ∙ unwanted)
         (λ other reads is. ap (write_bit new.cache) own ∙ unwritten head first other reads is)
 
     at : (l ≡ line) ⊎ (l ≡ line → ⊥) → conflicts_with (head_of state l) h new ≡ false
@@ -181,7 +192,8 @@ new_bit state h section touch may unmet unwanted new cache =
       live = λ lives. live;
       bits = λ lives.
           subst (λ c. NoMore (way_of (cache_of state h) l) (way_of c l)) (sym cache)
-          (no_more_twice (way_of (cache_of state h) l) _ _ (no_more_marked (cache_of state h) touch.line l touch.need other)
+          (no_more_twice (way_of (cache_of state h) l) _ _
+          (no_more_marked (cache_of state h) touch.line l touch.need other)
           (no_more_touched (marked (cache_of state h) touch.line touch.need) touch.line l));
     })
     unmet)
@@ -189,12 +201,14 @@ new_bit state h section touch may unmet unwanted new cache =
     live : is_some (section_of state h) ≡ true
     live = ap is_some may.goes.goes_on.is_short.inside.live
 
-    unwritten : (head : Request) → head_of state touch.line ≡ Some head → not (head.hart == h) ≡ true → head.need ≡ Read → touch.need ≡ Read →
-        write_bit new.cache touch.line ≡ false
+    unwritten : (head : Request) → head_of state touch.line ≡ Some head → not (head.hart == h) ≡ true →
+        head.need ≡ Read → touch.need ≡ Read → write_bit new.cache touch.line ≡ false
     unwritten head first other reads is =
         let own : head.line ≡ touch.line = line_of_first_of state.order touch.line head first in
         let met = sym (ap (λ found. conflicts_with found h (hart_of state h)) first) ∙ unmet touch.line in
-        let bit = not_met (not (head.hart == h)) (is_some (section_of state h)) (meets_bit (hart_of state h) head.line head.need) met other live in
+        let bit =
+        not_met (not (head.hart == h)) (is_some (section_of state h))
+        (meets_bit (hart_of state h) head.line head.need) met other live in
         ap (λ c. write_bit c touch.line) cache
         ∙ ap (λ need. write_bit (touched (marked (cache_of state h) touch.line need) touch.line) touch.line) is
         ∙ touched_unwritten (cache_of state h) touch.line
@@ -205,23 +219,26 @@ new_bit state h section touch may unmet unwanted new cache =
 refused_not : (permitted wanted : Bool) → (not permitted || wanted) ≡ false → wanted ≡ false
 refused_not permitted wanted is = second_not (not permitted) wanted is
 
-touch_unmet : (state : ModelState) (h : ℕ) (section : Section) (touch : Touch) → MayBuffer state h section (Some touch) →
-    Unmet state h (hart_of state h) → Unmet state h (buffered_hart section (Some touch) (hart_of state h))
-touch_unmet state h section touch may unmet = by (is_covered (cache_of state h) touch.line touch.need) refl may.coverable
+touch_unmet : (state : ModelState) (h : ℕ) (section : Section) (touch : Touch) →
+    MayBuffer state h section (Some touch) → Unmet state h (hart_of state h) →
+    Unmet state h (buffered_hart section (Some touch) (hart_of state h))
+touch_unmet state h section touch may unmet =
+    by (is_covered (cache_of state h) touch.line touch.need) refl may.coverable
   where
     new : Bool → Hart
     new had =
         record (hart_of state h) {
           section = Some (record section { count = section.count + 1 });
-          cache = touched (if had then cache_of state h else marked (cache_of state h) touch.line touch.need) touch.line;
+          cache =
+              touched (if had then cache_of state h else marked (cache_of state h) touch.line touch.need) touch.line;
           held_line = None;
         }
 
     live : is_some (section_of state h) ≡ true
     live = ap is_some may.goes.goes_on.is_short.inside.live
 
-    by : (had : Bool) → is_covered (cache_of state h) touch.line touch.need ≡ had → IsCoverable state h section (Some touch) →
-        Unmet state h (new had)
+    by : (had : Bool) → is_covered (cache_of state h) touch.line touch.need ≡ had →
+        IsCoverable state h section (Some touch) → Unmet state h (new had)
     by true is coverable line =
         fewer_bits_unmet state h line (new true)
         (record { live = λ lives. live; bits = λ lives. no_more_touched (cache_of state h) touch.line line })
@@ -230,8 +247,9 @@ touch_unmet state h section touch may unmet = by (is_covered (cache_of state h) 
     by false is (inr (room, fine)) line =
         new_bit state h section touch may unmet (refused_not (permits state h touch) _ fine) (new false) refl line
 
-buffers_unmet : (state : ModelState) (h : ℕ) (section : Section) (touch : Option Touch) → MayBuffer state h section touch →
-    Unmet state h (hart_of state h) → Unmet state h (buffered_hart section touch (hart_of state h))
+buffers_unmet : (state : ModelState) (h : ℕ) (section : Section) (touch : Option Touch) →
+    MayBuffer state h section touch → Unmet state h (hart_of state h) →
+    Unmet state h (buffered_hart section touch (hart_of state h))
 buffers_unmet state h section None may unmet line =
     fewer_bits_unmet state h line (buffered_hart section None (hart_of state h))
     (record {
@@ -247,7 +265,8 @@ deed_unmet : (state : ModelState) (h : ℕ) (deed : Deed) → DoesWhere state h 
 deed_unmet state h Rests does outside unmet l = unmet l
 deed_unmet state h Waits does outside unmet l = unmet l
 deed_unmet state h (Misses line need) does outside unmet l =
-    fewer_bits_unmet state h l (hart_after state h (Misses line need) (hart_of state h)) (fewer_same l (hart_of state h) _ refl refl) unmet
+    fewer_bits_unmet state h l (hart_after state h (Misses line need) (hart_of state h))
+    (fewer_same l (hart_of state h) _ refl refl) unmet
 deed_unmet state h (Runs touch) runs outside unmet l =
     out_unmet state h (hart_after state h (Runs touch) (hart_of state h))
     (candidate_section _ _ (candidate_of state h) _ ∙ runs.outside.no_section) l
@@ -259,13 +278,15 @@ deed_unmet state h (Arms word) arms outside unmet l =
 deed_unmet state h (Elides armed swap) elides outside unmet l =
     let it = bits.completing state h armed swap elides.completing in
     begins_unmet state h swap (ap (λ word. is_wanted_to_write state h (line_number word)) it.same ∙ it.unwanted)
-    (subst (λ word. HasNoOtherBit word (cache_of state h)) (sym it.same) (outside.1 armed elides.is_armed.armed_is).no_other) l
+    (subst (λ word. HasNoOtherBit word (cache_of state h)) (sym it.same)
+    (outside.1 armed elides.is_armed.armed_is).no_other) l
 deed_unmet state h (Continues armed) continues outside unmet l =
     out_unmet state h (hart_after state h (Continues armed) (hart_of state h)) continues.is_armed.no_section l
 deed_unmet state h (LetsGo armed) lets_go outside unmet l =
     out_unmet state h (hart_after state h (LetsGo armed) (hart_of state h)) lets_go.is_armed.no_section l
 deed_unmet state h (Buffers section touch) buffers outside unmet l = buffers_unmet state h section touch buffers unmet l
-deed_unmet state h (Commits section) does outside unmet l = out_unmet state h (hart_after state h (Commits section) (hart_of state h)) refl l
+deed_unmet state h (Commits section) does outside unmet l =
+    out_unmet state h (hart_after state h (Commits section) (hart_of state h)) refl l
 deed_unmet state h (RollsBack section cause) does outside unmet l =
     out_unmet state h (hart_after state h (RollsBack section cause) (hart_of state h)) refl l
 

@@ -1,5 +1,6 @@
 -- the ready event is progress, and there is none exactly where no event is
-use Rattle.std.proofs.Common.{◌≡◌, ◌∙◌, ℕ, zero, suc, ◌+◌, ◌<◌, Bool, true, false, List, [], ◌∷◌, None, Some, length, refl, ap, sym, arith, cond}
+use Rattle.std.proofs.Common.{◌≡◌, ◌∙◌, ℕ, zero, suc, ◌+◌, ◌<◌, Bool, true, false, List, [], ◌∷◌, None, Some, length}
+use Rattle.std.proofs.Common.{refl, ap, sym, arith, cond}
 use Rattle.std.specs.List.{find, flat_map}
 use Rattle.std.proofs.lemmas.Bool.Decides.{nat_tests}
 use Rattle.std.proofs.lemmas.List.Folds.{find-append}
@@ -36,7 +37,8 @@ none_behind test x xs none = by (test x) none
     by true none = absurd (cc)
     by false none = none
 
-none_cons : {A : Type 0} (test : A → Bool) (x : A) (xs : List A) → test x ≡ false → NonePass test xs → NonePass test (x ∷ xs)
+none_cons : {A : Type 0} (test : A → Bool) (x : A) (xs : List A) → test x ≡ false → NonePass test xs →
+    NonePass test (x ∷ xs)
 none_cons test x xs first others = ap (λ passes. cond passes (Some x) (find test xs)) first ∙ others
 
 -- a hart's event of a kind
@@ -53,7 +55,8 @@ after_order h = of_kind h Serve ∷ after_serve h
 abbrev after_step : ℕ → List Event
 after_step h = of_kind h Order ∷ after_order h
 
-none_of_kind : (state : ModelState) (h : ℕ) (kind : Kind) → NonePass (gets_on state) (events_of h) → gets_on state (of_kind h kind) ≡ false
+none_of_kind : (state : ModelState) (h : ℕ) (kind : Kind) → NonePass (gets_on state) (events_of h) →
+    gets_on state (of_kind h kind) ≡ false
 none_of_kind state h kind none = by kind
   where
     test : Event → Bool
@@ -74,7 +77,8 @@ none_of_kind state h kind none = by kind
     by Serve = none_in_front test (of_kind h Serve) (after_serve h) ordered
     by Deliver = none_in_front test (of_kind h Deliver) [] served
 
-none_of_hart : (state : ModelState) (h : ℕ) → ((kind : Kind) → gets_on state (of_kind h kind) ≡ false) → NonePass (gets_on state) (events_of h)
+none_of_hart : (state : ModelState) (h : ℕ) → ((kind : Kind) → gets_on state (of_kind h kind) ≡ false) →
+    NonePass (gets_on state) (events_of h)
 none_of_hart state h none =
     none_cons (gets_on state) (of_kind h Step) (after_step h) (none Step)
     (none_cons (gets_on state) (of_kind h Order) (after_order h) (none Order)
@@ -82,8 +86,9 @@ none_of_hart state h none =
     (none_cons (gets_on state) (of_kind h Deliver) [] (none Deliver) refl)))
 
 -- of all harts from a number on
-none_at : (state : ModelState) (harts : List Hart) (from number k : ℕ) → NonePass (gets_on state) (flat_map events_of (count_up from harts)) →
-    k < length harts → number ≡ from + k → NonePass (gets_on state) (events_of number)
+none_at : (state : ModelState) (harts : List Hart) (from number k : ℕ) →
+    NonePass (gets_on state) (flat_map events_of (count_up from harts)) → k < length harts → number ≡ from + k →
+    NonePass (gets_on state) (events_of number)
 none_at state [] from number k none below is = absurd (omega arith)
 none_at state (hart ∷ harts) from number zero none below is =
     let same : number ≡ from = omega (arith, is) in
@@ -100,13 +105,15 @@ none_from state [] from each = refl
 none_from state (hart ∷ harts) from each =
     find-append (gets_on state) (events_of from) (flat_map events_of (count_up (suc from) harts))
     ∙ both_none _ _ (each from 0 (omega arith) (omega arith))
-    (none_from state harts (suc from) (λ number k below is. each number (suc k) (omega (arith, below)) (omega (arith, is))))
+    (none_from state harts (suc from)
+    (λ number k below is. each number (suc k) (omega (arith, below)) (omega (arith, is))))
 
 -- an event is what comes of its kind and its hart's number
 pub number_kept : (h : ℕ) → h < 8 → below 8 h ≡ h
 number_kept h small = grind (arith, nat_tests)
 
-pub gets_on_by_number : (state : ModelState) (event : Event) → gets_on state event ≡ is_progress (kind_turn state event.hart.number event.kind).outcome
+pub gets_on_by_number : (state : ModelState) (event : Event) →
+    gets_on state event ≡ is_progress (kind_turn state event.hart.number event.kind).outcome
 unfolding next
 gets_on_by_number state event = refl
 

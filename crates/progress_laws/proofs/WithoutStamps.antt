@@ -34,7 +34,8 @@ record Stampless (state : ModelState) : Type 0 where
 
 next_unretained : (state : ModelState) (event : Event) → Stampless state → NoneRetains (next state event).state
 next_unretained state event now =
-    by_event (λ turn. NoneRetains turn.state) state event (λ step. step_unretained state event.hart.number now.outside now.unretained)
+    by_event (λ turn. NoneRetains turn.state) state event
+    (λ step. step_unretained state event.hart.number now.outside now.unretained)
     (λ turn done. bus_unretained done now.mode now.once.once now.unretained)
 
 next_stampless : (state : ModelState) (event : Event) → Stampless state → Stampless (next state event).state
@@ -46,7 +47,8 @@ next_stampless state event now = record {
   unretained = next_unretained state event now;
 }
 
-begin_mode : (program : Program) (config : Config) → has_stamps config.mode ≡ false → has_stamps (begin program config).config.mode ≡ false
+begin_mode : (program : Program) (config : Config) → has_stamps config.mode ≡ false →
+    has_stamps (begin program config).config.mode ≡ false
 unfolding begin
 begin_mode program config stampless = stampless
 
@@ -70,7 +72,8 @@ pub no_section_retains : NoSectionRetainsWithoutStamps
 no_section_retains program config events mode = (always_stampless program config events mode).unretained
 
 -- so a hart that runs is enough to get on
-hart_gets_on : (state : ModelState) → Orderly state → NoneRetains state → (h : ℕ) → status_of state.committed h ≡ Running → GetsOn state
+hart_gets_on : (state : ModelState) → Orderly state → NoneRetains state → (h : ℕ) →
+    status_of state.committed h ≡ Running → GetsOn state
 hart_gets_on state orderly none h running = by (gets_on_or_waits state orderly)
   where
     by : GetsOn state ⊎ ((k : ℕ) → OnlyWaits state k) → GetsOn state

@@ -18,7 +18,8 @@ ReadyEventGetsOn = (state : ModelState) (event : Event) → ready_event state �
 abbrev pub NoneIsReadyWhereNoneGetsOn : Type 0
 NoneIsReadyWhereNoneGetsOn =
     (state : ModelState) → length state.harts ≤ 8 →
-    (ready_event state ≡ None) ↔ ((event : Event) → event.hart.number < length state.harts → gets_on state event ≡ false)
+    (ready_event state ≡ None)
+    ↔ ((event : Event) → event.hart.number < length state.harts → gets_on state event ≡ false)
 
 -- in the modes without stamps no section ever retains a line: each request wins as it becomes the head of its line
 abbrev pub NoSectionRetainsWithoutStamps : Type 0

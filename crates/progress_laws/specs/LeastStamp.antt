@@ -37,15 +37,16 @@ pub record EndsHold (state : ModelState) (step : Event) : Type 0 where
   pub progress : gets_on state step ≡ true
   pub ended : (hart_of (next state step).state step.hart.number).held_line ≡ None
 
--- no live section retains a line, it has a first request, and a serve of that one's hart is `Served`, or `Blocked` as `Locked`
--- by a hart without a live section that holds the line until its next step
+-- no live section retains a line, it has a first request, and a serve of that one's hart is `Served`, or `Blocked` as
+-- `Locked` by a hart without a live section that holds the line until its next step
 pub record MovesOn (state : ModelState) (line : ℕ) : Type 0 where
   pub not_retained : (g : ℕ) → retains state g line ≡ false
   pub head : Request
   pub is_head : head_of state line ≡ Some head
   pub served : (serve : Event) → serve.kind ≡ kinds.Serve → serve.hart.number ≡ head.hart →
       (is_served (next state serve).outcome ≡ true) ⊎ IsLocked state line (next state serve).outcome
-  pub hold_ends : (step : Event) → step.kind ≡ kinds.Step → (hart_of state step.hart.number).held_line ≡ Some line → EndsHold state step
+  pub hold_ends : (step : Event) → step.kind ≡ kinds.Step → (hart_of state step.hart.number).held_line ≡ Some line →
+      EndsHold state step
 
 -- in lock removal, in every state that can be reached, such a line moves on
 abbrev pub LineOfLeastStampMovesOn : Type 0

@@ -23,7 +23,8 @@ gets_on state event = is_progress (next state event).outcome
 -- a hart's events, one of each kind in their order
 abbrev pub events_of : ℕ → List Event
 events_of h =
-    record { kind = Step; hart = hart_id h } ∷ record { kind = Order; hart = hart_id h } ∷ record { kind = Serve; hart = hart_id h } ∷
+    record { kind = Step; hart = hart_id h } ∷ record { kind = Order; hart = hart_id h } ∷
+    record { kind = Serve; hart = hart_id h } ∷
     record { kind = Deliver; hart = hart_id h } ∷ []
 
 -- the events that a machine may make, by ascending hart

@@ -7,4 +7,5 @@ use Rattle.rv_alu.specs.contracts.view.HartView as view
 
 -- what is written to the present view is the present view afterwards, and the checkpoint stays
 abbrev pub LendsPresent : MutBor Marked → MutBor HartView → Fml
-LendsPresent marks present = Lends the_row view.the_row marks present (λ written. record marks.now { present = written })
+LendsPresent marks present =
+    Lends the_row view.the_row marks present (λ written. record marks.now { present = written })

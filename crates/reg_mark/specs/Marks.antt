@@ -29,7 +29,8 @@ back_of marks = unmarked (committed_of marks)
 abbrev pub kept_of : Marked → Marked
 kept_of marks = unmarked marks.present
 
--- the views after the committed one lost its reservation of a word on the line; beside a checkpoint the present view keeps its own
+-- the views after the committed one lost its reservation of a word on the line; beside a checkpoint
+-- the present view keeps its own
 abbrev pub views_unreserved : ℕ → Option HartView → HartView → Marked
 views_unreserved line None present = unmarked (unreserved line present)
 views_unreserved line (Some mark) present = record { present = present; mark = Some (unreserved line mark) }

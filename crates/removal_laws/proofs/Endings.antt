@@ -2,7 +2,8 @@
 use Rattle.std.proofs.Common.{◌≡◌, ◌∙◌, ◌==◌, ◌&&◌, ℕ, true, false, Option, None, Some, is_some, refl, ap}
 use Rattle.el_base.specs.declared.config.Mode.{Mode}
 use Rattle.el_model.specs.BusEvent.{IsBusEvent}
-use Rattle.el_model.specs.Deed.{Arms, Begins, Buffers, Commits, Continues, Deed, Elides, LetsGo, Misses, Rests, RollsBack, Runs, Waits, hart_after, outcome_of}
+use Rattle.el_model.specs.Deed.{Arms, Begins, Buffers, Commits, Continues, Deed, Elides, LetsGo, Misses, Rests}
+use Rattle.el_model.specs.Deed.{RollsBack, Runs, Waits, hart_after, outcome_of}
 use Rattle.el_base.specs.Winners.{winner_over}
 use Rattle.el_base.proofs.Laws.Cases.{clash}
 use Rattle.el_base.proofs.Laws.Tests.{own_test}
@@ -48,7 +49,8 @@ step_ends : (state : ModelState) (h g : ℕ) → is_live state g ≡ true → is
 step_ends state h g =
     let step = step_deed state h in
     rw step.turn_is
-    (each_with (Ends state h step.deed) state h (hart_after state h step.deed (hart_of state h)) (deed_ends state h step.deed)
+    (each_with (Ends state h step.deed) state h (hart_after state h step.deed (hart_of state h))
+    (deed_ends state h step.deed)
     (λ k live ended. clash ended live) g)
 
 -- an event of the bus that names no winner over a hart leaves its section
@@ -62,7 +64,8 @@ left : {X : Type 0} {state : ModelState} {by : ℕ} {turn : Turn} → IsBusEvent
     winner_over turn.outcome h ≡ None → is_live state h ≡ true → is_live turn.state h ≡ false → X
 left {X} {state} {by} {turn} done h numbered unnamed live ended =
     clash ended
-    (bus_leaves state.config.mode (standing_of (hart_of state h)) (standing_of (hart_of turn.state h)) (winner_over turn.outcome h)
+    (bus_leaves state.config.mode (standing_of (hart_of state h)) (standing_of (hart_of turn.state h))
+    (winner_over turn.outcome h)
     (bus_restores done h numbered (live_below state h live)) unnamed ∙ live)
 
 pub least_ends_its_own_section : LeastEndsItsOwnSection

@@ -47,17 +47,21 @@ FirstOn state new line =
     (h : ℕ) (request : Request) → request.line ≡ line → ordered_of state h ≡ Some request → is_live new h ≡ true →
     has_bit (cache_of new h) request.line ≡ true → head_of state request.line ≡ Some request
 
-pub faced_stands : (state : ModelState) (head : Request) → Facing state head → FirstOn state (faced state head) head.line → Standing (faced state head)
+pub faced_stands : (state : ModelState) (head : Request) → Facing state head →
+    FirstOn state (faced state head) head.line → Standing (faced state head)
 faced_stands state head facing first_on =
     let posts = all_faced state head facing in
     let others = retaining_posted (Other head.line) state (faced state head) posts facing.retaining in
     record {
-      messages = messages_moved Everywhere state (faced state head) (moved_by_post state (faced state head) posts) facing.messages;
+      messages =
+          messages_moved Everywhere state (faced state head) (moved_by_post state (faced state head) posts)
+          facing.messages;
       retaining = record {
         may = λ g line on is. may_by others g line is (cases_eq line head.line);
         raised = others.raised;
         ordered = others.ordered;
-        first = λ h request on is live bit. first_by posts others h request is live bit (cases_eq request.line head.line);
+        first =
+            λ h request on is live bit. first_by posts others h request is live bit (cases_eq request.line head.line);
       };
     }
   where
@@ -69,9 +73,10 @@ faced_stands state head facing first_on =
         (subst (λ l. retains (faced state head) g l ≡ true) same is))
     may_by others g line is (inr apart) = others.may g line apart is
 
-    first_by : AllPosted state (faced state head) → Retaining (Other head.line) (faced state head) → (h : ℕ) (request : Request) →
-        ordered_of (faced state head) h ≡ Some request → is_live (faced state head) h ≡ true →
-        has_bit (cache_of (faced state head) h) request.line ≡ true → (request.line ≡ head.line) ⊎ (request.line ≡ head.line → ⊥) →
+    first_by : AllPosted state (faced state head) → Retaining (Other head.line) (faced state head) →
+        (h : ℕ) (request : Request) → ordered_of (faced state head) h ≡ Some request →
+        is_live (faced state head) h ≡ true → has_bit (cache_of (faced state head) h) request.line ≡ true →
+        (request.line ≡ head.line) ⊎ (request.line ≡ head.line → ⊥) →
         head_of (faced state head) request.line ≡ Some request
     first_by posts others h request is live bit (inl same) =
         ap (λ o. first_of o request.line) posts.order
@@ -89,7 +94,8 @@ all_let_go state head = record {
       (λ g now.
       let hart = hart_of state g in
       let pc = (view_of state.committed g).pc in
-      by_test (Posted state g hart) (is_freed head g hart) (let_go_hart pc hart) hart (λ freed. let_go_posts state g pc hart) (λ stays. now))
+      by_test (Posted state g hart) (is_freed head g hart) (let_go_hart pc hart) hart
+      (λ freed. let_go_posts state g pc hart) (λ stays. now))
       (λ g. unchanged state g (hart_of state g));
 }
 
@@ -98,10 +104,13 @@ freed_facing state head facing =
     let posts = all_let_go state head in
     record {
       mode = ap (λ config. config.mode) (frame_let_go state head).config ∙ facing.mode;
-      below = λ h found is. rw posts.count (facing.below h found (subst (λ o. request_of o h ≡ Some found) posts.order is));
+      below =
+          λ h found is. rw posts.count (facing.below h found (subst (λ o. request_of o h ≡ Some found) posts.order is));
       first = subst (λ o. first_of o head.line ≡ Some head) (sym posts.order) facing.first;
       ordered = subst (λ o. request_of o head.hart ≡ Some head) (sym posts.order) facing.ordered;
-      messages = messages_moved Everywhere state (let_go state head) (moved_by_post state (let_go state head) posts) facing.messages;
+      messages =
+          messages_moved Everywhere state (let_go state head) (moved_by_post state (let_go state head) posts)
+          facing.messages;
       retaining = retaining_posted (Other head.line) state (let_go state head) posts facing.retaining;
     }
 
@@ -113,7 +122,8 @@ met_fewer state head facing g line =
     (((all_let_go state head).each_posted g).fewer line)
     (((all_faced (let_go state head) head (freed_facing state head facing)).each_posted g).fewer line)
 
-pub met_stands : (state : ModelState) (head : Request) → Facing state head → FirstOn state (met state head) head.line → Standing (met state head)
+pub met_stands : (state : ModelState) (head : Request) → Facing state head → FirstOn state (met state head) head.line →
+    Standing (met state head)
 met_stands state head facing first_on =
     let posts = all_let_go state head in
     faced_stands (let_go state head) head (freed_facing state head facing)

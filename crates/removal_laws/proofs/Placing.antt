@@ -1,13 +1,16 @@
 -- what holds still holds after a request is ordered, with its marker and its face
-use Rattle.std.proofs.Common.{◌≡◌, ◌≢◌, ◌∙◌, ◌<◌, ◌++◌, ◌&&◌, ℕ, true, false, [], ◌∷◌, length, Option, None, Some, is_some, refl, ap, sym, inl, inr}
+use Rattle.std.proofs.Common.{◌≡◌, ◌≢◌, ◌∙◌, ◌<◌, ◌++◌, ◌&&◌, ℕ, true, false, [], ◌∷◌, length, Option, None, Some}
+use Rattle.std.proofs.Common.{is_some, refl, ap, sym, inl, inr}
 use Rattle.std.proofs.Common.{◌⊎◌, subst, if◌then◌else◌}
 use Rattle.std.specs.Option.{option_or}
 use Rattle.std.proofs.Math.ListN.{length-set}
 use Rattle.std.proofs.lemmas.Bool.{and_from, cases_eq}
 use Rattle.std.proofs.lemmas.Option.{same_Some}
 use Rattle.bus_order.specs.Order.{Request, appended, first_of, queue_of, request_of, tail_of}
-use Rattle.bus_order.proofs.Laws.LookUps.{first_of_appended_other, first_of_appended_own, first_of_in_front_of_other, first_of_in_front_of_own}
-use Rattle.bus_order.proofs.Laws.Queues.{hart_of_request_of, queue_of_appended_other, queue_of_appended_own, queue_of_in_front_of_other}
+use Rattle.bus_order.proofs.Laws.LookUps.{first_of_appended_other, first_of_appended_own, first_of_in_front_of_other}
+use Rattle.bus_order.proofs.Laws.LookUps.{first_of_in_front_of_own}
+use Rattle.bus_order.proofs.Laws.Queues.{hart_of_request_of, queue_of_appended_other, queue_of_appended_own}
+use Rattle.bus_order.proofs.Laws.Queues.{queue_of_in_front_of_other}
 use Rattle.bus_order.proofs.Laws.Queues.{queue_of_in_front_of_own, request_of_first_of, request_of_tail_of}
 use Rattle.residency.specs.Cache.{has_bit}
 use Rattle.el_base.specs.declared.config.Mode.{Mode}
@@ -20,7 +23,8 @@ use Rattle.el_base.proofs.Laws.Options.{none_from}
 use Rattle.el_model.specs.Conflicts.{conflicts_with, meets_bit, retains}
 use Rattle.el_model.specs.Armed.{let_go}
 use Rattle.el_model.specs.Face.{met}
-use Rattle.el_model.specs.Order.{Alone, Behind, InFront, marked_by, marked_from, marking, order_raised, place_for, placed}
+use Rattle.el_model.specs.Order.{Alone, Behind, InFront, marked_by, marked_from, marking, order_raised, place_for}
+use Rattle.el_model.specs.Order.{placed}
 use Rattle.el_model.specs.State.{Hart, ModelState, cache_of, hart_of, head_of, is_live, ordered_of, raised_of}
 use Rattle.el_model.proofs.Laws.Harts.{hart_of-with_hart_same}
 use Rattle.el_model.proofs.Laws.Keeps.{frame_let_go, keeps_marking}
@@ -31,7 +35,8 @@ use Rattle.removal_laws.proofs.Faced.{Facing, FirstOn, Other, all_let_go, met_fe
 use Rattle.removal_laws.proofs.Laws.Facing.{faced_retains}
 use Rattle.removal_laws.proofs.Grounds.{Grounds, Standing}
 use Rattle.removal_laws.proofs.Kept.{AllPosted, chained_kept, messages_moved, moved_by_post, retaining_posted}
-use Rattle.removal_laws.proofs.Ordering.{Ordering, base, base_below, base_messages, base_retaining, linked_still, mask, other_ordered, own_ordered}
+use Rattle.removal_laws.proofs.Ordering.{Ordering, base, base_below, base_messages, base_retaining, linked_still, mask}
+use Rattle.removal_laws.proofs.Ordering.{other_ordered, own_ordered}
 use Rattle.removal_laws.proofs.Ordering.{same_bits, same_count, waits_still}
 use Rattle.removal_laws.proofs.Posting.{Posted, is_marked, marked, unchanged}
 use Rattle.removal_laws.proofs.Queues.{chained_before, chained_more, head_is, no_queue, tail_is}
@@ -53,7 +58,8 @@ posted_one Tlr state sender h mode may = record {
   order = refl;
   count = length-set state.harts h _;
   each_posted =
-      each_with (λ g hart. Posted state g (hart_of state g) hart) state h _ (marked state h sender (hart_of state h) may)
+      each_with (λ g hart. Posted state g (hart_of state g) hart) state h _
+      (marked state h sender (hart_of state h) may)
       (λ g. unchanged state g (hart_of state g));
 }
 posted_one Sle state sender h mode may = absurd (cc)
@@ -61,7 +67,8 @@ posted_one Plain state sender h mode may = absurd (cc)
 
 linked_one : (mode : Mode) (state : ModelState) (sender h : ℕ) → mode ≡ Tlr → h < length state.harts →
     IsLinked (hart_of (marked_from mode state sender h) h) sender
-linked_one Tlr state sender h mode exists = rw (hart_of-with_hart_same state h _ exists) (is_marked (hart_of state h) sender)
+linked_one Tlr state sender h mode exists =
+    rw (hart_of-with_hart_same state h _ exists) (is_marked (hart_of state h) sender)
 linked_one Sle state sender h mode exists = absurd (cc)
 linked_one Plain state sender h mode exists = absurd (cc)
 
@@ -82,12 +89,13 @@ posted_to : (state : ModelState) (h : ℕ) (former : Option Request) → state.c
 posted_to state h None mode may = posted_none state
 posted_to state h (Some former) mode may = posted_one state.config.mode state h former.hart mode (may former refl)
 
-linked_to : (state : ModelState) (h : ℕ) (former : Option Request) (found : Request) → state.config.mode ≡ Tlr → former ≡ Some found →
-    found.hart < length state.harts → IsLinked (hart_of (marking state h former) found.hart) h
+linked_to : (state : ModelState) (h : ℕ) (former : Option Request) (found : Request) → state.config.mode ≡ Tlr →
+    former ≡ Some found → found.hart < length state.harts → IsLinked (hart_of (marking state h former) found.hart) h
 linked_to state h None found mode is exists = absurd (cc)
 linked_to state h (Some former) found mode is exists =
     subst (λ r. IsLinked (hart_of (marked_from state.config.mode state h former.hart) r.hart) h) (same_Some _ _ is)
-    (linked_one state.config.mode state h former.hart mode (subst (λ r. r.hart < length state.harts) (sym (same_Some _ _ is)) exists))
+    (linked_one state.config.mode state h former.hart mode
+    (subst (λ r. r.hart < length state.harts) (sym (same_Some _ _ is)) exists))
 
 -- what is said of the other lines and of one is said of all
 pub all_chained : (state : ModelState) (line : ℕ) → Messages (Other line) state →
@@ -114,9 +122,11 @@ no_tie (Some a) (Some b) g h apart own_a own_b some_a some_b one other =
     let same = less_strict.total a b one other in
     absurd (apart (sym (own_a a refl) ∙ ap (λ s. s.hart) same ∙ own_b b refl))
 
-module _ (state : ModelState) (request : Request) (grounds : Grounds state) (ordering : Ordering state request) (standing : Standing state) where
+module _ (state : ModelState) (request : Request) (grounds : Grounds state) (ordering : Ordering state request)
+    (standing : Standing state) where
   -- behind the other requests of its line
-  behind_posts : AllPosted (base state request Behind) (marked_by (base state request Behind) (tail_of state.order request.line) request.hart)
+  behind_posts : AllPosted (base state request Behind)
+      (marked_by (base state request Behind) (tail_of state.order request.line) request.hart)
   behind_posts =
       posted_by (base state request Behind) (tail_of state.order request.line) request.hart grounds.opened.mode
       (λ last is.
@@ -127,14 +137,16 @@ module _ (state : ModelState) (request : Request) (grounds : Grounds state) (ord
         exists = rw (same_count state request Behind grounds ordering standing) (grounds.below last.hart last found);
       })
 
-  behind_head : is_some (head_of state request.line) ≡ true → (line : ℕ) → head_of (base state request Behind) line ≡ head_of state line
+  behind_head : is_some (head_of state request.line) ≡ true → (line : ℕ) →
+      head_of (base state request Behind) line ≡ head_of state line
   behind_head has_head line = by (cases_eq line request.line)
     where
       first : (found : Option Request) → is_some found ≡ true → option_or found (Some request) ≡ found
       first None none = absurd (cc)
       first (Some found) is = refl
 
-      by : (line ≡ request.line) ⊎ (line ≡ request.line → ⊥) → first_of (appended state.order request) line ≡ first_of state.order line
+      by : (line ≡ request.line) ⊎ (line ≡ request.line → ⊥) →
+          first_of (appended state.order request) line ≡ first_of state.order line
       by (inl same) = rw same (first_of_appended_own state.order request ∙ first (head_of state request.line) has_head)
       by (inr apart) = first_of_appended_other state.order request line (λ same. apart (sym same))
 
@@ -147,22 +159,26 @@ module _ (state : ModelState) (request : Request) (grounds : Grounds state) (ord
       record {
         messages =
             all_chained final request.line
-            (messages_moved (Other request.line) (base state request Behind) final (moved_by_post (base state request Behind) final posts)
+            (messages_moved (Other request.line) (base state request Behind) final
+            (moved_by_post (base state request Behind) final posts)
             (base_messages state request Behind grounds ordering standing (Other request.line)
             (λ line apart. queue_of_appended_other state.order request line (λ same. apart (sym same)))))
             (subst (λ o. IsChained final (queue_of o request.line)) (sym posts.order)
             (subst (IsChained final) (sym (queue_of_appended_own state.order request))
             (chained_more final (queue_of state.order request.line) request (tail_of state.order request.line)
             (chained_kept state final
-            (λ g before is. (posts.each_posted g).links before (linked_still state request Behind grounds ordering standing g before is))
+            (λ g before is. (posts.each_posted g).links before
+            (linked_still state request Behind grounds ordering standing g before is))
             (queue_of state.order request.line) (standing.messages.chained request.line tt))
             (tail_is state.order request.line)
             (λ last is.
-            linked_by (base state request Behind) (tail_of state.order request.line) request.hart last grounds.opened.mode is
+            linked_by (base state request Behind) (tail_of state.order request.line) request.hart last
+            grounds.opened.mode is
             (rw (same_count state request Behind grounds ordering standing) ordering.exists)))));
         retaining =
             retaining_posted Everywhere (base state request Behind) final posts
-            (base_retaining state request Behind grounds ordering standing Everywhere (λ line on. behind_head has_head line)
+            (base_retaining state request Behind grounds ordering standing Everywhere
+            (λ line on. behind_head has_head line)
             (λ on live bit. clash no_bit (and_from _ _ live bit)));
       }
 
@@ -182,7 +198,8 @@ module _ (state : ModelState) (request : Request) (grounds : Grounds state) (ord
         (base_messages state request Alone grounds ordering standing (Other request.line)
         (λ line apart. queue_of_appended_other state.order request line (λ same. apart (sym same))))
         (subst (IsChained (base state request Alone))
-        (sym (queue_of_appended_own state.order request ∙ ap (λ queue. queue ++ request ∷ []) (no_queue state.order request.line no_head))) tt);
+        (sym (queue_of_appended_own state.order request ∙ ap (λ queue. queue ++ request ∷ [])
+        (no_queue state.order request.line no_head))) tt);
     retaining =
         base_retaining state request Alone grounds ordering standing (Other request.line)
         (λ line apart. first_of_appended_other state.order request line (λ same. apart (sym same)))
@@ -199,12 +216,14 @@ module _ (state : ModelState) (request : Request) (grounds : Grounds state) (ord
           by : (h ≡ request.hart) ⊎ (h ≡ request.hart → ⊥) → head_of (base state request Alone) found.line ≡ Some found
           by (inl same) =
               let mine = own_ordered state request Alone grounds ordering standing in
-              let e : request ≡ found = same_Some _ _ (sym mine ∙ ap (ordered_of (base state request Alone)) (sym same) ∙ is) in
+              let e : request ≡ found =
+              same_Some _ _ (sym mine ∙ ap (ordered_of (base state request Alone)) (sym same) ∙ is) in
               subst (λ r. head_of (base state request Alone) r.line ≡ Some r) e
               (first_of_appended_own state.order request ∙ alone_first (head_of state request.line) no_head)
           by (inr apart) =
               absurd
-              (has_head state.order h found (sym (other_ordered state request Alone grounds ordering standing h apart) ∙ is)
+              (has_head state.order h found
+              (sym (other_ordered state request Alone grounds ordering standing h apart) ∙ is)
               (ap (head_of state) line ∙ no_head))
 
   -- in front of the other requests of its line, where its hart's section has a bit there
@@ -230,26 +249,37 @@ module _ (state : ModelState) (request : Request) (grounds : Grounds state) (ord
       let posts = front_posts in
       chained_before front (queue_of state.order request.line) request (head_of state request.line)
       (chained_kept state front
-      (λ g before is. (posts.each_posted g).links before (linked_still state request InFront grounds ordering standing g before is))
+      (λ g before is. (posts.each_posted g).links before
+      (linked_still state request InFront grounds ordering standing g before is))
       (queue_of state.order request.line) (standing.messages.chained request.line tt))
       (head_is state.order request.line)
       (λ former is.
       linked_to (base state request InFront) request.hart (head_of state request.line) former grounds.opened.mode is
-      (rw (same_count state request InFront grounds ordering standing) (grounds.below former.hart former (former_is former is))))
+      (rw (same_count state request InFront grounds ordering standing)
+      (grounds.below former.hart former (former_is former is))))
 
   pub front_facing : Facing front request
   front_facing =
       let posts = front_posts in
       record {
-        mode = ap (λ c. c.mode) (keeps_marking (base state request InFront) request.hart (head_of state request.line)).config ∙ grounds.opened.mode;
+        mode =
+            ap (λ c. c.mode)
+            (keeps_marking (base state request InFront) request.hart (head_of state request.line)).config
+            ∙ grounds.opened.mode;
         below = λ h found is.
             rw posts.count
-            (base_below state request InFront grounds ordering standing h found (subst (λ o. request_of o h ≡ Some found) posts.order is));
-        first = subst (λ o. first_of o request.line ≡ Some request) (sym posts.order) (first_of_in_front_of_own state.order request);
-        ordered = subst (λ o. request_of o request.hart ≡ Some request) (sym posts.order) (own_ordered state request InFront grounds ordering standing);
+            (base_below state request InFront grounds ordering standing h found
+            (subst (λ o. request_of o h ≡ Some found) posts.order is));
+        first =
+            subst (λ o. first_of o request.line ≡ Some request) (sym posts.order)
+            (first_of_in_front_of_own state.order request);
+        ordered =
+            subst (λ o. request_of o request.hart ≡ Some request) (sym posts.order)
+            (own_ordered state request InFront grounds ordering standing);
         messages =
             all_chained front request.line
-            (messages_moved (Other request.line) (base state request InFront) front (moved_by_post (base state request InFront) front posts)
+            (messages_moved (Other request.line) (base state request InFront) front
+            (moved_by_post (base state request InFront) front posts)
             (base_messages state request InFront grounds ordering standing (Other request.line)
             (λ line apart. queue_of_in_front_of_other state.order request line (λ same. apart (sym same)))))
             (subst (λ o. IsChained front (queue_of o request.line)) (sym posts.order)
@@ -262,7 +292,8 @@ module _ (state : ModelState) (request : Request) (grounds : Grounds state) (ord
       }
 
   -- the section of the former head, if it has a bit there, has the greater stamp and loses
-  meets_write : (hart : Hart) (line : ℕ) (need : Need) → need ≡ Write → has_bit hart.cache line ≡ true → meets_bit hart line need ≡ true
+  meets_write : (hart : Hart) (line : ℕ) (need : Need) → need ≡ Write → has_bit hart.cache line ≡ true →
+      meets_bit hart line need ≡ true
   meets_write hart line Write is bit = bit
   meets_write hart line Read is bit = absurd (cc)
 
@@ -280,7 +311,8 @@ module _ (state : ModelState) (request : Request) (grounds : Grounds state) (ord
       fewer =
           fewer_twice found.line (hart_of state h) (hart_of front h) (hart_of (met front request) h)
           (fewer_twice found.line (hart_of state h) (hart_of (base state request InFront) h) (hart_of front h)
-          (same_bits state request InFront grounds ordering standing found.line h) ((posts.each_posted h).fewer found.line))
+          (same_bits state request InFront grounds ordering standing found.line h)
+          ((posts.each_posted h).fewer found.line))
           (met_fewer front request front_facing h found.line)
 
       in_base : ordered_of (base state request InFront) h ≡ Some found
@@ -305,7 +337,8 @@ module _ (state : ModelState) (request : Request) (grounds : Grounds state) (ord
             other = λ same. apart (sym (hart_of_request_of state.order h found was) ∙ same);
             live = own_live;
             bit =
-                meets_write (hart_of state request.hart) found.line found.need (standing.retaining.ordered h found was old_live old_bit)
+                meets_write (hart_of state request.hart) found.line found.need
+                (standing.retaining.ordered h found was old_live old_bit)
                 (rw line own_bit);
           }))
 
@@ -324,7 +357,9 @@ module _ (state : ModelState) (request : Request) (grounds : Grounds state) (ord
           }))).stayed.not_after
 
       same_attempt : (hart_of (let_go front request) h).attempt ≡ (hart_of state h).attempt
-      same_attempt = (freed.each_posted h).attempt ∙ (posts.each_posted h).attempt ∙ ap (λ hart. hart.attempt) (mask state request InFront h)
+      same_attempt =
+          (freed.each_posted h).attempt ∙ (posts.each_posted h).attempt
+          ∙ ap (λ hart. hart.attempt) (mask state request InFront h)
 
       tie : {X : Type 0} → h ≢ request.hart → ordered_of state h ≡ Some found → X
       tie apart was =
@@ -335,7 +370,8 @@ module _ (state : ModelState) (request : Request) (grounds : Grounds state) (ord
           no_tie (hart_of state h).attempt (hart_of state request.hart).attempt h request.hart apart
           (λ stamp is. (grounds.own h stamp is).hart) (λ stamp is. (grounds.own request.hart stamp is).hart)
           (grounds.opened.open_each h old_live) (grounds.opened.open_each request.hart own_live)
-          (subst (λ s. is_before s (hart_of state request.hart).attempt ≡ false) its_stamp (may.not_after_head found first))
+          (subst (λ s. is_before s (hart_of state request.hart).attempt ≡ false) its_stamp
+          (may.not_after_head found first))
           (subst (λ s. is_before s (hart_of state h).attempt ≡ false) own_stamp
           (subst (λ s. is_before request.stamp s ≡ false) same_attempt (stayed apart)))
 
@@ -353,20 +389,26 @@ module _ (state : ModelState) (request : Request) (grounds : Grounds state) (ord
   -- wherever it goes
   pub placed_stands : Standing (placed state request (place_for state request))
   placed_stands =
-      by_test (λ place. Standing (placed state request place)) (is_live state request.hart && has_bit (cache_of state request.hart) request.line)
+      by_test (λ place. Standing (placed state request place))
+      (is_live state request.hart && has_bit (cache_of state request.hart) request.line)
       InFront (if is_some (head_of state request.line) then Behind else Alone)
-      (λ bit. front_stands (first_of_both (is_live state request.hart) _ bit) (second_of_both (is_live state request.hart) _ bit))
+      (λ bit. front_stands (first_of_both (is_live state request.hart) _ bit)
+      (second_of_both (is_live state request.hart) _ bit))
       (λ no_bit.
       by_test (λ place. Standing (placed state request place)) (is_some (head_of state request.line)) Behind Alone
       (λ has_head. behind_stands no_bit has_head)
       (λ no_head. alone_stands (none_from (head_of state request.line) no_head)))
 
 -- a hart orders the request that it has raised, if it has one
-pub ordered_stands : (state : ModelState) (h : ℕ) (raised : Option Request) → raised_of state h ≡ raised → Grounds state → Standing state →
-    Standing (order_raised state raised).state
+pub ordered_stands : (state : ModelState) (h : ℕ) (raised : Option Request) → raised_of state h ≡ raised →
+    Grounds state → Standing state → Standing (order_raised state raised).state
 ordered_stands state h None is grounds standing = standing
 ordered_stands state h (Some request) is grounds standing =
     let sound = grounds.once.sound in
     let mine = raised_own state h request sound is in
     placed_stands state request grounds
-    (record { raised = mine; exists = raised_exists state h request sound is; free = free_of_order state request.hart request sound mine }) standing
+    (record {
+      raised = mine;
+      exists = raised_exists state h request sound is;
+      free = free_of_order state request.hart request sound mine;
+    }) standing

@@ -1,5 +1,6 @@
 -- a hart that is posted messages, sees a stamp, loses its section or has its armed one let go, and nothing else
-use Rattle.std.proofs.Common.{◌≡◌, ◌∙◌, ◌≤◌, ◌==◌, ℕ, Bool, true, false, List, [], ◌∷◌, map, Option, refl, sym, inl, inr, ◌⊎◌, arith, subst, if◌then◌else◌}
+use Rattle.std.proofs.Common.{◌≡◌, ◌∙◌, ◌≤◌, ◌==◌, ℕ, Bool, true, false, List, [], ◌∷◌, map, Option, refl, sym, inl}
+use Rattle.std.proofs.Common.{inr, ◌⊎◌, arith, subst, if◌then◌else◌}
 use Rattle.defer_list.specs.HartSet.{has}
 use Rattle.el_model.specs.Armed.{let_go_hart}
 use Rattle.el_model.specs.Attempts.{see}
@@ -16,7 +17,8 @@ use Rattle.stamp.specs.Stamps.{Stamp}
 use Rattle.el_base.proofs.Laws.Tests.{number_of_test, own_test}
 
 -- what is in a box after a message was posted
-pub still_there : (box : List Message) (new message : Message) → has_message box message ≡ true → has_message (posted box new) message ≡ true
+pub still_there : (box : List Message) (new message : Message) → has_message box message ≡ true →
+    has_message (posted box new) message ≡ true
 still_there box new message is = by (same_message new message) refl
   where
     by : (same : Bool) → same_message new message ≡ same → has_message (posted box new) message ≡ true
@@ -45,8 +47,8 @@ pub record Posted (state : ModelState) (g : ℕ) (old new : Hart) : Type 0 where
   pub known : (origin : ℕ) → Knows new origin → Knows old origin
   pub fewer : (line : ℕ) → Fewer line old new
 
-pub posted_twice : (state : ModelState) (g : ℕ) (one two three : Hart) → Posted state g one two → Posted state g two three →
-    Posted state g one three
+pub posted_twice : (state : ModelState) (g : ℕ) (one two three : Hart) → Posted state g one two →
+    Posted state g two three → Posted state g one three
 posted_twice state g one two three first second = record {
   raised = second.raised ∙ first.raised;
   told = second.told ∙ first.told;
@@ -60,14 +62,15 @@ posted_twice state g one two three first second = record {
   fewer = λ line. fewer_twice line one two three (first.fewer line) (second.fewer line);
 }
   where
-    from : (before : ℕ) → IsLinked two before ⊎ MayPrecede state g before → IsLinked one before ⊎ MayPrecede state g before
+    from : (before : ℕ) → IsLinked two before ⊎ MayPrecede state g before →
+        IsLinked one before ⊎ MayPrecede state g before
     from before (inl was) = first.fresh before was
     from before (inr new) = inr new
 
 -- the same messages and sets
-pub posted_same : (state : ModelState) (g : ℕ) (old new : Hart) → new.raised ≡ old.raised → new.mail ≡ old.mail → new.told ≡ old.told →
-    new.upstream ≡ old.upstream → new.attempt ≡ old.attempt → old.seen ≤ new.seen → ((line : ℕ) → Fewer line old new) →
-    Posted state g old new
+pub posted_same : (state : ModelState) (g : ℕ) (old new : Hart) → new.raised ≡ old.raised → new.mail ≡ old.mail →
+    new.told ≡ old.told → new.upstream ≡ old.upstream → new.attempt ≡ old.attempt → old.seen ≤ new.seen →
+    ((line : ℕ) → Fewer line old new) → Posted state g old new
 posted_same state g old new raised mail told upstream attempt seen fewer = record {
   raised = raised;
   told = told;
@@ -82,7 +85,9 @@ posted_same state g old new raised mail told upstream attempt seen fewer = recor
 }
 
 pub unchanged : (state : ModelState) (g : ℕ) (hart : Hart) → Posted state g hart hart
-unchanged state g hart = posted_same state g hart hart refl refl refl refl refl (no_less hart.seen) (λ line. fewer_same line hart hart refl refl)
+unchanged state g hart =
+    posted_same state g hart hart refl refl refl refl refl (no_less hart.seen)
+    (λ line. fewer_same line hart hart refl refl)
 
 pub seeing : (state : ModelState) (g : ℕ) (stamp : Option Stamp) (hart : Hart) → Posted state g hart (see stamp hart)
 seeing state g stamp hart =
@@ -141,7 +146,8 @@ marked state g sender hart may = record {
     told_still origin (inl sent) = inl (still_there hart.mail (Marker sender) (Probe origin) sent)
     told_still origin (inr is) = inr is
 
-    by_probe : (origin : ℕ) → (has_message hart.mail (Probe origin) ≡ true) ⊎ (Marker sender ≡ Probe origin) → Knows hart origin
+    by_probe : (origin : ℕ) → (has_message hart.mail (Probe origin) ≡ true) ⊎ (Marker sender ≡ Probe origin) →
+        Knows hart origin
     by_probe origin (inl was) = inl was
     by_probe origin (inr same) = not_probe sender origin same
 
@@ -154,24 +160,29 @@ is_marked hart sender = inl (has_posted_own hart.mail (Marker sender))
 
 -- and a list of them
 pub all_marked : (state : ModelState) (g : ℕ) (senders : List ℕ) (hart : Hart) →
-    ((sender : ℕ) → has senders sender ≡ true → MayPrecede state g sender) → Posted state g hart (post_all hart (map Marker senders))
+    ((sender : ℕ) → has senders sender ≡ true → MayPrecede state g sender) →
+    Posted state g hart (post_all hart (map Marker senders))
 all_marked state g [] hart may = unchanged state g hart
 all_marked state g (sender ∷ senders) hart may =
-    posted_twice state g hart (record hart { mail = posted hart.mail (Marker sender) }) _ (marked state g sender hart (may sender (first sender senders)))
-    (all_marked state g senders (record hart { mail = posted hart.mail (Marker sender) }) (λ other is. may other (later sender senders other is)))
+    posted_twice state g hart (record hart { mail = posted hart.mail (Marker sender) }) _
+    (marked state g sender hart (may sender (first sender senders)))
+    (all_marked state g senders (record hart { mail = posted hart.mail (Marker sender) })
+    (λ other is. may other (later sender senders other is)))
   where
     first : (sender : ℕ) (senders : List ℕ) → has (sender ∷ senders) sender ≡ true
     first sender senders = rw (own_test sender) refl
 
     later : (sender : ℕ) (senders : List ℕ) (other : ℕ) → has senders other ≡ true → has (sender ∷ senders) other ≡ true
-    later sender senders other is = by_test (λ b. b ≡ true) (sender == other) true (has senders other) (λ same. refl) (λ apart. is)
+    later sender senders other is =
+        by_test (λ b. b ≡ true) (sender == other) true (has senders other) (λ same. refl) (λ apart. is)
 
 -- each sender of the list has a link
 pub all_linked : (senders : List ℕ) (hart : Hart) (sender : ℕ) → has senders sender ≡ true ⊎ IsLinked hart sender →
     IsLinked (post_all hart (map Marker senders)) sender
 all_linked [] hart sender (inl is) = absurd (cc)
 all_linked [] hart sender (inr linked) = linked
-all_linked (first ∷ senders) hart sender is = all_linked senders (record hart { mail = posted hart.mail (Marker first) }) sender (next is)
+all_linked (first ∷ senders) hart sender is =
+    all_linked senders (record hart { mail = posted hart.mail (Marker first) }) sender (next is)
   where
     here : (same : Bool) → (first == sender) ≡ same → (if same then true else has senders sender) ≡ true →
         has senders sender ≡ true ⊎ IsLinked (record hart { mail = posted hart.mail (Marker first) }) sender

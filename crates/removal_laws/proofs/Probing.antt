@@ -1,5 +1,6 @@
 -- what a delivered message changes of each hart
-use Rattle.std.proofs.Common.{◌≡◌, ◌≤◌, ◌==◌, ℕ, Bool, true, false, List, [], ◌∷◌, length, map, Some, refl, ap, inl, inr, ◌⊎◌, subst, if◌then◌else◌}
+use Rattle.std.proofs.Common.{◌≡◌, ◌≤◌, ◌==◌, ℕ, Bool, true, false, List, [], ◌∷◌, length, map, Some, refl, ap, inl}
+use Rattle.std.proofs.Common.{inr, ◌⊎◌, subst, if◌then◌else◌}
 use Rattle.bus_order.specs.Order.{Request}
 use Rattle.defer_list.specs.HartSet.{has}
 use Rattle.el_model.specs.Conflicts.{conflicts_with}
@@ -16,8 +17,8 @@ use Rattle.el_model.proofs.Laws.EachHart.{Each}
 use Rattle.stamp.specs.Stamps.{is_before}
 use Rattle.el_base.proofs.Laws.Tests.{number_of_test, own_test}
 
--- the links, origins and entries of a hart, after a message was taken and others were posted; `Up` and `Told` tell of the
--- entries that are new
+-- the links, origins and entries of a hart, after a message was taken and others were posted; `Up` and `Told`
+-- tell of the entries that are new
 pub record Took (Up Told : ℕ → ℕ → Type 0) (state : ModelState) (g : ℕ) (old new : Hart) : Type 0 where
   pub raised : new.raised ≡ old.raised
   pub attempt : new.attempt ≡ old.attempt
@@ -30,7 +31,8 @@ pub record Took (Up Told : ℕ → ℕ → Type 0) (state : ModelState) (g : ℕ
   pub told : (origin : ℕ) → has new.told origin ≡ true → (has old.told origin ≡ true) ⊎ Told g origin
   pub fewer : (line : ℕ) → Fewer line old new
 
-pub took_nothing : (Up Told : ℕ → ℕ → Type 0) (state : ModelState) (g : ℕ) (hart : Hart) → Took Up Told state g hart hart
+pub took_nothing : (Up Told : ℕ → ℕ → Type 0) (state : ModelState) (g : ℕ) (hart : Hart) →
+    Took Up Told state g hart hart
 took_nothing Up Told state g hart = record {
   raised = refl;
   attempt = refl;
@@ -70,7 +72,8 @@ probed Up Told state g origin old hart may now = record {
     links before (inl sent) = inl (still_there hart.mail (Probe origin) (Marker before) sent)
     links before (inr is) = inr is
 
-    of_marker : (before : ℕ) → (has_message hart.mail (Marker before) ≡ true) ⊎ (Probe origin ≡ Marker before) → IsLinked hart before
+    of_marker : (before : ℕ) → (has_message hart.mail (Marker before) ≡ true) ⊎ (Probe origin ≡ Marker before) →
+        IsLinked hart before
     of_marker before (inl was) = inl was
     of_marker before (inr same) = absurd (cc)
 
@@ -98,7 +101,8 @@ all_probed Up Told state g [] old hart may now = now
 all_probed Up Told state g (origin ∷ origins) old hart may now =
     all_probed Up Told state g origins old (record hart { mail = posted hart.mail (Probe origin) })
     (λ other is. may other (later other is))
-    (probed Up Told state g origin old hart (may origin (ap (λ b. if b then true else has origins origin) (own_test origin))) now)
+    (probed Up Told state g origin old hart
+    (may origin (ap (λ b. if b then true else has origins origin) (own_test origin))) now)
   where
     later : (other : ℕ) → has origins other ≡ true → has (origin ∷ origins) other ≡ true
     later other is = by (origin == other)
@@ -111,7 +115,8 @@ pub all_known : (origins : List ℕ) (hart : Hart) (origin : ℕ) → (has origi
     Knows (post_all hart (map Probe origins)) origin
 all_known [] hart origin (inl is) = absurd (cc)
 all_known [] hart origin (inr known) = known
-all_known (first ∷ origins) hart origin is = all_known origins (record hart { mail = posted hart.mail (Probe first) }) origin (next is)
+all_known (first ∷ origins) hart origin is =
+    all_known origins (record hart { mail = posted hart.mail (Probe first) }) origin (next is)
   where
     new : Hart
     new = record hart { mail = posted hart.mail (Probe first) }
@@ -131,12 +136,12 @@ all_known (first ∷ origins) hart origin is = all_known origins (record hart { 
     next (inr (inr is)) = inr (inr is)
 
 -- the first message of a mailbox, and the others
-pub first_or_later : (first : Message) (others : List Message) (message : Message) → has_message (first ∷ others) message ≡ true →
-    (first ≡ message) ⊎ (has_message others message ≡ true)
+pub first_or_later : (first : Message) (others : List Message) (message : Message) →
+    has_message (first ∷ others) message ≡ true → (first ≡ message) ⊎ (has_message others message ≡ true)
 first_or_later first others message = by (same_message first message) refl
   where
-    by : (same : Bool) → same_message first message ≡ same → (if same then true else has_message others message) ≡ true →
-        (first ≡ message) ⊎ (has_message others message ≡ true)
+    by : (same : Bool) → same_message first message ≡ same → (if same then true else has_message others message)
+        ≡ true → (first ≡ message) ⊎ (has_message others message ≡ true)
     by true same is = inl (same_is_one first message same)
     by false apart is = inr is
 
@@ -155,10 +160,12 @@ pub record Debts (Up Told : ℕ → ℕ → Type 0) (state final : ModelState) :
   pub each_took : Each (λ g hart. Took Up Told state g (hart_of state g) hart) final
   pub owed : (g before : ℕ) → Up g before → Owed final g before
   pub owed_of : (g origin : ℕ) → Told g origin → OwedOf final g origin
-  pub safe : (g origin : ℕ) → Told g origin → (line : ℕ) (request : Request) → ordered_on state origin line ≡ Some request →
-      conflicts_with (head_of state line) g (hart_of final g) ≡ true → is_before request.stamp (hart_of state g).attempt ≡ false
+  pub safe : (g origin : ℕ) → Told g origin → (line : ℕ) (request : Request) →
+      ordered_on state origin line ≡ Some request → conflicts_with (head_of state line) g (hart_of final g) ≡ true →
+      is_before request.stamp (hart_of state g).attempt ≡ false
 
-pub debts_stand : (Up Told : ℕ → ℕ → Type 0) (state final : ModelState) → Debts Up Told state final → Standing state → Standing final
+pub debts_stand : (Up Told : ℕ → ℕ → Type 0) (state final : ModelState) → Debts Up Told state final →
+    Standing state → Standing final
 debts_stand Up Told state final debts standing = record {
   messages =
       messages_moved Everywhere state final
@@ -194,7 +201,8 @@ debts_stand Up Told state final debts standing = record {
     told g origin (inl was) = inl was
     told g origin (inr new) = inr (debts.owed_of g origin new)
 
-    told_safe : (g origin : ℕ) → (has (hart_of state g).told origin ≡ true) ⊎ Told g origin → (has (hart_of state g).told origin ≡ true)
+    told_safe : (g origin : ℕ) → (has (hart_of state g).told origin ≡ true) ⊎ Told g origin →
+        (has (hart_of state g).told origin ≡ true)
         ⊎ ((line : ℕ) (request : Request) → ordered_on state origin line ≡ Some request →
         conflicts_with (head_of state line) g (hart_of final g) ≡ true →
         is_before request.stamp (hart_of state g).attempt ≡ false)

@@ -10,7 +10,8 @@ use Rattle.el_base.specs.declared.events.Event.{Event}
 use Rattle.el_base.proofs.Laws.Cases.{some_none}
 use Rattle.el_model.specs.BusEvent.{IsBusEvent, Nothing, Places, Serves, Start, StartsWhere, Takes, having_taken}
 use Rattle.el_model.specs.BusEvent.{order_after, order_at, started}
-use Rattle.el_model.specs.Deed.{Arms, Begins, Buffers, Commits, Continues, Deed, DoesWhere, Elides, LetsGo, Misses, Rests, RollsBack, Runs, Waits, hart_after}
+use Rattle.el_model.specs.Deed.{Arms, Begins, Buffers, Commits, Continues, Deed, DoesWhere, Elides, LetsGo, Misses}
+use Rattle.el_model.specs.Deed.{Rests, RollsBack, Runs, Waits, hart_after}
 use Rattle.el_model.specs.Next.{next, step_turn}
 use Rattle.el_model.specs.Plain.{after_candidate, candidate_of}
 use Rattle.el_model.specs.Serve.{bystander, served_hart, with_claim}
@@ -56,7 +57,8 @@ pub raised_own : (state : ModelState) (h : ℕ) (request : Request) → Sound st
 raised_own state h request sound raised = ap (raised_of state) ((sound h).own request raised) ∙ raised
 
 -- a request that is served
-claim_stamped : (ordered : Option Request) (live : Bool) (request : Request) (hart : Hart) → HasStamp ordered hart.raised hart.attempt →
+claim_stamped : (ordered : Option Request) (live : Bool) (request : Request) (hart : Hart) →
+    HasStamp ordered hart.raised hart.attempt →
     HasStamp ordered (with_claim live request hart).raised (with_claim live request hart).attempt
 claim_stamped ordered true request hart now = now
 claim_stamped ordered false request hart now = now
@@ -96,8 +98,10 @@ started_stamped state by (Places request place) sound now may h =
     (λ apart. rw (order_other state request place h apart) (now h))
 started_stamped state by (Serves request) sound now may h =
     let ordered = request_of (removed state.order request.hart) in
-    by_hart (Stamping ordered h) h request.hart (served_hart state request (hart_of state h)) (bystander state request (hart_of state h))
-    (λ own. claim_stamped (ordered h) (is_some (hart_of state h).section) request _ (served_ordered state request h now))
+    by_hart (Stamping ordered h) h request.hart (served_hart state request (hart_of state h))
+    (bystander state request (hart_of state h))
+    (λ own. claim_stamped (ordered h) (is_some (hart_of state h).section) request _
+    (served_ordered state request h now))
     (λ apart. served_ordered state request h now)
 started_stamped state by (Takes message others) sound now where_it h =
     by_hart (Stamping (ordered_of state) h) h by (having_taken message others (hart_of state h)) (hart_of state h)
@@ -130,12 +134,14 @@ bus_stamped {state} {by} {turn} done sound now h =
 -- a deed
 candidate_stamped : (ordered : Option Request) (pc : Option ℕ) (had_watch : Bool) (candidate : Option Swap) (hart :
     Hart) → HasStamp ordered hart.raised hart.attempt →
-    HasStamp ordered (after_candidate pc had_watch candidate hart).raised (after_candidate pc had_watch candidate hart).attempt
+    HasStamp ordered (after_candidate pc had_watch candidate hart).raised
+    (after_candidate pc had_watch candidate hart).attempt
 candidate_stamped ordered pc had_watch None hart now = now
 candidate_stamped ordered pc had_watch (Some swap) hart now = now
 
 -- a hart without a request
-unasked : (ordered raised : Option Request) (attempt : Option Stamp) → raised ≡ None → ordered ≡ None → HasStamp ordered raised attempt
+unasked : (ordered raised : Option Request) (attempt : Option Stamp) → raised ≡ None → ordered ≡ None →
+    HasStamp ordered raised attempt
 unasked ordered raised attempt not_raised not_ordered = record {
   raised_is = λ request is. some_none (sym is ∙ not_raised);
   ordered_is = λ request is. some_none (sym is ∙ not_ordered);
@@ -170,14 +176,18 @@ deed_stamped state h (LetsGo armed) does now = now h
 step_stamped : (state : ModelState) (h : ℕ) → AllStamped state → AllStamped (step_turn state h).state
 step_stamped state h now =
     let step = step_deed state h in
-    let keeps = step_keeps (Stamping (ordered_of state)) state h (λ deed does. deed_stamped state h deed does now) now in
+    let keeps =
+    step_keeps (Stamping (ordered_of state)) state h (λ deed does. deed_stamped state h deed does now) now in
     λ g.
-    subst (λ o. HasStamp (request_of o g) (hart_of (step_turn state h).state g).raised (hart_of (step_turn state h).state g).attempt)
+    subst (λ o. HasStamp (request_of o g) (hart_of (step_turn state h).state g).raised
+    (hart_of (step_turn state h).state g).attempt)
     (sym (ap (λ turn. turn.state.order) step.turn_is)) (keeps g)
 
-pub next_stamped : (state : ModelState) (event : Event) → Sound state → AllStamped state → AllStamped (next state event).state
+pub next_stamped : (state : ModelState) (event : Event) → Sound state → AllStamped state →
+    AllStamped (next state event).state
 next_stamped state event sound now =
-    by_event (λ turn. AllStamped turn.state) state event (λ step. step_stamped state event.hart.number now) (λ turn done. bus_stamped done sound now)
+    by_event (λ turn. AllStamped turn.state) state event (λ step. step_stamped state event.hart.number now)
+    (λ turn done. bus_stamped done sound now)
 
 -- each ordered request is of a hart of the machine
 abbrev pub AllBelow : ModelState → Type 0

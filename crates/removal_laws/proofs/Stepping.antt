@@ -1,5 +1,6 @@
 -- what holds still holds after a step: it posts nothing, and a section that retains no line does not begin to
-use Rattle.std.proofs.Common.{◌≡◌, ◌≢◌, ◌∙◌, ◌≤◌, ◌+◌, ◌==◌, ◌&&◌, ◌||◌, ℕ, Bool, true, false, not, List, [], ◌∷◌, length, Option, None, Some}
+use Rattle.std.proofs.Common.{◌≡◌, ◌≢◌, ◌∙◌, ◌≤◌, ◌+◌, ◌==◌, ◌&&◌, ◌||◌, ℕ, Bool, true, false, not, List, [], ◌∷◌}
+use Rattle.std.proofs.Common.{length, Option, None, Some}
 use Rattle.std.proofs.Common.{is_some, refl, ap, sym, inl, inr, ◌⊎◌, subst, if◌then◌else◌}
 use Rattle.std.proofs.Math.ListN.{length-set}
 use Rattle.std.proofs.lemmas.Bool.{cases_eq}
@@ -16,7 +17,8 @@ use Rattle.el_base.specs.declared.outcomes.Need.TheVariants.{Read, Write}
 use Rattle.el_base.proofs.Laws.Cases.{clash, some_none}
 use Rattle.el_base.proofs.Laws.Tests.{other_test, second_not}
 use Rattle.el_model.specs.Conflicts.{conflicts_with, is_asked, is_wanted, is_wanted_to_write, is_write, meets_bit}
-use Rattle.el_model.specs.Deed.{Arms, Begins, Buffers, Commits, Continues, Deed, DoesWhere, Elides, IsCoverable, LetsGo, MayElide, Misses, Rests}
+use Rattle.el_model.specs.Deed.{Arms, Begins, Buffers, Commits, Continues, Deed, DoesWhere, Elides, IsCoverable, LetsGo}
+use Rattle.el_model.specs.Deed.{MayElide, Misses, Rests}
 use Rattle.el_model.specs.Deed.{RollsBack, Runs, Waits, done, hart_after, permits}
 use Rattle.el_model.specs.InSection.{covered, is_covered}
 use Rattle.el_model.specs.Next.{step_turn}
@@ -53,7 +55,8 @@ candidate_contents : (pc : Option ℕ) (had_watch : Bool) (candidate : Option Sw
 candidate_contents pc had_watch None hart = refl
 candidate_contents pc had_watch (Some swap) hart = refl
 
-deed_contents : (state : ModelState) (h : ℕ) (deed : Deed) (hart : Hart) → contents (hart_after state h deed hart) ≡ contents hart
+deed_contents : (state : ModelState) (h : ℕ) (deed : Deed) (hart : Hart) →
+    contents (hart_after state h deed hart) ≡ contents hart
 deed_contents state h Rests hart = refl
 deed_contents state h Waits hart = refl
 deed_contents state h (Misses line need) hart = refl
@@ -92,12 +95,13 @@ record Retained (old new : Hart) : Type 0 where
   seen : old.seen ≤ new.seen
 
 record Stepped (state : ModelState) (g : ℕ) (new : Hart) : Type 0 where
-  retained : (line : ℕ) → conflicts_with (head_of state line) g new ≡ true → (conflicts_with (head_of state line) g (hart_of state g) ≡ true)
+  retained : (line : ℕ) → conflicts_with (head_of state line) g new ≡ true →
+      (conflicts_with (head_of state line) g (hart_of state g) ≡ true)
       × Retained (hart_of state g) new
   raised : (request : Request) → new.raised ≡ Some request → is_some new.section ≡ true →
       has_bit new.cache request.line ≡ true → request.need ≡ Write
-  ordered : (request : Request) → ordered_of state g ≡ Some request → is_some new.section ≡ true → has_bit new.cache request.line ≡ true →
-      (request.need ≡ Write) × (head_of state request.line ≡ Some request)
+  ordered : (request : Request) → ordered_of state g ≡ Some request → is_some new.section ≡ true →
+      has_bit new.cache request.line ≡ true → (request.need ≡ Write) × (head_of state request.line ≡ Some request)
 
 retained_same : (hart : Hart) → Retained hart hart
 retained_same hart = record { attempt = refl; seen = no_less hart.seen }
@@ -106,7 +110,9 @@ unchanged : (state : ModelState) (g : ℕ) → Standing state → Stepped state 
 unchanged state g standing = record {
   retained = λ line is. (is, retained_same (hart_of state g));
   raised = λ request is live bit. standing.retaining.raised g request is live bit;
-  ordered = λ request is live bit. (standing.retaining.ordered g request is live bit, standing.retaining.first g request tt is live bit);
+  ordered =
+      λ request is live bit.
+      (standing.retaining.ordered g request is live bit, standing.retaining.first g request tt is live bit);
 }
 
 -- a hart without a section and without an ordered request
@@ -118,8 +124,8 @@ outside_stepped state g new none = record {
 }
 
 -- who is asked for a line: where no other hart is, its head is the hart's own
-asked_not : (counts : Request → Bool) (order : List Request) (h line : ℕ) (head : Request) → is_asked counts order h line ≡ false →
-    first_of order line ≡ Some head → head.hart ≢ h → counts head ≡ false
+asked_not : (counts : Request → Bool) (order : List Request) (h line : ℕ) (head : Request) →
+    is_asked counts order h line ≡ false → first_of order line ≡ Some head → head.hart ≢ h → counts head ≡ false
 asked_not counts [] h line head none is apart = absurd (cc)
 asked_not counts (request ∷ order) h line head none is apart =
     by (λ rest. asked_not counts order h line head rest) (request.line == line) refl none is
@@ -132,8 +138,9 @@ asked_not counts (request ∷ order) h line head none is apart =
     counted true counts_it is none = none
     counted false counts_it is none = absurd (cc)
 
-    by : (is_asked counts order h line ≡ false → first_of order line ≡ Some head → head.hart ≢ h → counts head ≡ false) → (here : Bool) →
-        (request.line == line) ≡ here → (((here && not (request.hart == h)) && counts request) || is_asked counts order h line) ≡ false →
+    by : (is_asked counts order h line ≡ false → first_of order line ≡ Some head → head.hart ≢ h →
+        counts head ≡ false) → (here : Bool) → (request.line == line) ≡ here →
+        (((here && not (request.hart == h)) && counts request) || is_asked counts order h line) ≡ false →
         (if here then Some request else first_of order line) ≡ Some head → counts head ≡ false
     by rest true same none found =
         let e : request ≡ head = same_Some _ _ found in
@@ -142,38 +149,46 @@ asked_not counts (request ∷ order) h line head none is apart =
         (ap not (other_test request.hart h (λ own. apart (ap (λ r. r.hart) (sym e) ∙ own))))
         (neither ((true && not (request.hart == h)) && counts request) (is_asked counts order h line) none).0)
     by rest false other none found =
-        rest (neither ((false && not (request.hart == h)) && counts request) (is_asked counts order h line) none).1 found apart
+        rest (neither ((false && not (request.hart == h)) && counts request) (is_asked counts order h line) none).1
+        found apart
 
 -- a new bit on a line that no other hart waits for in conflict meets no head more
-wanted_bit : (state : ModelState) (h line : ℕ) (need : Need) (old new : Hart) (head : Request) → is_wanted state h line need ≡ false →
-    new.cache ≡ touched (marked old.cache line need) line → head_of state head.line ≡ Some head → head.hart ≢ h →
-    meets_bit new head.line head.need ≡ true → meets_bit old head.line head.need ≡ true
+wanted_bit : (state : ModelState) (h line : ℕ) (need : Need) (old new : Hart) (head : Request) →
+    is_wanted state h line need ≡ false → new.cache ≡ touched (marked old.cache line need) line →
+    head_of state head.line ≡ Some head → head.hart ≢ h → meets_bit new head.line head.need ≡ true →
+    meets_bit old head.line head.need ≡ true
 wanted_bit state h line need old new head unwanted cache is apart bit = by (cases_eq head.line line)
   where
     write_head : need ≡ Read → head.need ≡ Write → head.line ≡ line → meets_bit old head.line head.need ≡ true
     write_head reads writes same =
-        let none = asked_not is_write state.order h line head (subst (λ n. is_wanted state h line n ≡ false) reads unwanted)
+        let none =
+        asked_not is_write state.order h line head (subst (λ n. is_wanted state h line n ≡ false) reads unwanted)
         (subst (λ l. first_of state.order l ≡ Some head) same is) apart in
         clash none (ap (λ n. is_write (record head { need = n })) writes)
 
     read_head : need ≡ Read → head.line ≡ line → head.need ≡ Read → meets_bit old head.line head.need ≡ true
     read_head reads same read =
         let here : bit_in Write (way_of new.cache line) ≡ true =
-        subst (λ l. bit_in Write (way_of new.cache l) ≡ true) same (subst (λ n. meets_bit new head.line n ≡ true) read bit) in
+        subst (λ l. bit_in Write (way_of new.cache l) ≡ true) same
+        (subst (λ n. meets_bit new head.line n ≡ true) read bit) in
         let there : bit_in Write (way_of (touched (marked old.cache line Read) line) line) ≡ true =
-        subst (λ c. bit_in Write (way_of c line) ≡ true) (cache ∙ ap (λ n. touched (marked old.cache line n) line) reads) here in
+        subst (λ c. bit_in Write (way_of c line) ≡ true)
+        (cache ∙ ap (λ n. touched (marked old.cache line n) line) reads) here in
         let untouched = way_of-touched (marked old.cache line Read) line line in
         let before = write_of_read_marked old.cache line (subst (λ way. bit_in Write way ≡ true) untouched there) in
-        subst (λ n. meets_bit old head.line n ≡ true) (sym read) (subst (λ l. bit_in Write (way_of old.cache l) ≡ true) (sym same) before)
+        subst (λ n. meets_bit old head.line n ≡ true) (sym read)
+        (subst (λ l. bit_in Write (way_of old.cache l) ≡ true) (sym same) before)
 
-    by_head : need ≡ Read → head.line ≡ line → (wanted : Need) → head.need ≡ wanted → meets_bit old head.line head.need ≡ true
+    by_head : need ≡ Read → head.line ≡ line → (wanted : Need) → head.need ≡ wanted →
+        meets_bit old head.line head.need ≡ true
     by_head reads same Write writes = write_head reads writes same
     by_head reads same Read read = read_head reads same read
 
     by_need : head.line ≡ line → (mine : Need) → need ≡ mine → meets_bit old head.line head.need ≡ true
     by_need same Read reads = by_head reads same head.need refl
     by_need same Write writes =
-        clash (asked_not (λ request. true) state.order h line head (subst (λ n. is_wanted state h line n ≡ false) writes unwanted)
+        clash (asked_not (λ request. true) state.order h line head
+        (subst (λ n. is_wanted state h line n ≡ false) writes unwanted)
         (subst (λ l. first_of state.order l ≡ Some head) same is) apart) refl
 
     by : (head.line ≡ line) ⊎ (head.line ≡ line → ⊥) → meets_bit old head.line head.need ≡ true
@@ -181,7 +196,8 @@ wanted_bit state h line need old new head unwanted cache is apart bit = by (case
     by (inr other) =
         meets_no_more old new head.line head.need
         (subst (λ c. no_more_in c) (sym cache)
-        (no_more_twice (way_of old.cache head.line) (way_of (marked old.cache line need) head.line) _ (no_more_marked old.cache line head.line need other)
+        (no_more_twice (way_of old.cache head.line) (way_of (marked old.cache line need) head.line) _
+        (no_more_marked old.cache line head.line need other)
         (no_more_touched (marked old.cache line need) line head.line))) bit
       where
         no_more_in : List (List Way) → Type 0
@@ -190,19 +206,25 @@ wanted_bit state h line need old new head unwanted cache is apart bit = by (case
 -- without marks no request is met
 bare : (hart : Hart) (line : ℕ) (need : Need) → has_marks hart.cache ≡ false → meets_bit hart line need ≡ false
 bare hart line Write none = no_marks hart.cache line none
-bare hart line Read none = second_not (read_bit hart.cache line) (write_bit hart.cache line) (no_marks hart.cache line none)
+bare hart line Read none =
+    second_not (read_bit hart.cache line) (write_bit hart.cache line) (no_marks hart.cache line none)
 
-head_by : {X : Type 0} (state : ModelState) (g line : ℕ) (hart : Hart) → conflicts_with (head_of state line) g hart ≡ true →
-    ((head : Request) → head_of state line ≡ Some head → head_of state head.line ≡ Some head → Meets head g hart → X) → X
+head_by : {X : Type 0} (state : ModelState) (g line : ℕ) (hart : Hart) →
+    conflicts_with (head_of state line) g hart ≡ true →
+    ((head : Request) → head_of state line ≡ Some head → head_of state head.line ≡ Some head → Meets head g hart → X) →
+    X
 head_by {X} state g line hart is shows = by (head_of state line) refl is
   where
     by : (found : Option Request) → head_of state line ≡ found → conflicts_with found g hart ≡ true → X
     by None none is = absurd (cc)
-    by (Some head) found is = shows head found (ap (head_of state) (head_line state line head found) ∙ found) (meets head g hart is)
+    by (Some head) found is =
+        shows head found (ap (head_of state) (head_line state line head found) ∙ found) (meets head g hart is)
 
 -- a deed of a hart that waits for nothing
-free_stepped : (state : ModelState) (h : ℕ) (new : Hart) → has_request state h ≡ false → new.raised ≡ raised_of state h →
-    ((line : ℕ) → conflicts_with (head_of state line) h new ≡ true → (conflicts_with (head_of state line) h (hart_of state h) ≡ true)
+free_stepped : (state : ModelState) (h : ℕ) (new : Hart) → has_request state h ≡ false →
+    new.raised ≡ raised_of state h →
+    ((line : ℕ) → conflicts_with (head_of state line) h new ≡ true →
+    (conflicts_with (head_of state line) h (hart_of state h) ≡ true)
     × Retained (hart_of state h) new) → Stepped state h new
 free_stepped state h new free raised retained =
     let none = no_request state h free in
@@ -216,10 +238,13 @@ free_stepped state h new free raised retained =
 buffered_retains : (state : ModelState) (h line : ℕ) (section next : Section) (cache : List (List Way)) →
     (hart_of state h).section ≡ Some section →
     ((head : Request) → head_of state head.line ≡ Some head → head.hart ≢ h →
-    meets_bit (record (hart_of state h) { section = Some next; cache = cache; held_line = None }) head.line head.need ≡ true →
-    meets_bit (hart_of state h) head.line head.need ≡ true) →
-    conflicts_with (head_of state line) h (record (hart_of state h) { section = Some next; cache = cache; held_line = None }) ≡ true →
-    (conflicts_with (head_of state line) h (hart_of state h) ≡ true)
+    meets_bit (record (hart_of state h) { section = Some next; cache = cache; held_line = None }) head.line head.need
+    ≡ true → meets_bit (hart_of state h) head.line head.need ≡ true) →
+    conflicts_with (head_of state line) h (record (hart_of state h) {
+      section = Some next;
+      cache = cache;
+      held_line = None;
+    }) ≡ true → (conflicts_with (head_of state line) h (hart_of state h) ≡ true)
     × Retained (hart_of state h) (record (hart_of state h) { section = Some next; cache = cache; held_line = None })
 buffered_retains state h line section next cache live bits is = (
   head_by state h line (record (hart_of state h) { section = Some next; cache = cache; held_line = None }) is
@@ -230,17 +255,24 @@ buffered_retains state h line section next cache live bits is = (
   record { attempt = refl; seen = no_less (hart_of state h).seen },
 )
 
-touch_bits : (state : ModelState) (h : ℕ) (section next : Section) (touch : Option Touch) → IsCoverable state h section touch → (head : Request) →
-    head_of state head.line ≡ Some head → head.hart ≢ h →
-    meets_bit (record (hart_of state h) { section = Some next; cache = covered (hart_of state h).cache touch; held_line = None })
+touch_bits : (state : ModelState) (h : ℕ) (section next : Section) (touch : Option Touch) →
+    IsCoverable state h section touch → (head : Request) → head_of state head.line ≡ Some head → head.hart ≢ h →
+    meets_bit (record (hart_of state h) {
+      section = Some next;
+      cache = covered (hart_of state h).cache touch;
+      held_line = None;
+    })
     head.line head.need ≡ true →
     meets_bit (hart_of state h) head.line head.need ≡ true
 touch_bits state h section next None coverable head is apart bit =
-    meets_no_more (hart_of state h) (record (hart_of state h) { section = Some next; held_line = None }) head.line head.need
+    meets_no_more (hart_of state h) (record (hart_of state h) { section = Some next; held_line = None })
+    head.line head.need
     (record { read = λ r. r; write = λ w. w }) bit
 touch_bits state h section next (Some touch) (inl has) head is apart bit =
     let cache = (hart_of state h).cache in
-    meets_no_more (hart_of state h) (record (hart_of state h) { section = Some next; cache = touched cache touch.line; held_line = None }) head.line head.need
+    meets_no_more (hart_of state h)
+    (record (hart_of state h) { section = Some next; cache = touched cache touch.line; held_line = None })
+    head.line head.need
     (no_more_touched cache touch.line head.line)
     (subst
     (λ b. meets_bit (record (hart_of state h) {
@@ -251,7 +283,11 @@ touch_bits state h section next (Some touch) (inl has) head is apart bit =
 touch_bits state h section next (Some touch) (inr (room, granted)) head is apart bit =
     let cache = (hart_of state h).cache in
     wanted_bit state h touch.line touch.need (hart_of state h)
-    (record (hart_of state h) { section = Some next; cache = touched (marked cache touch.line touch.need) touch.line; held_line = None }) head
+    (record (hart_of state h) {
+      section = Some next;
+      cache = touched (marked cache touch.line touch.need) touch.line;
+      held_line = None;
+    }) head
     (second_not (not (permits state h touch)) (is_wanted state h touch.line touch.need) granted) refl is apart
     (subst
     (λ b. meets_bit (record (hart_of state h) {
@@ -261,7 +297,8 @@ touch_bits state h section next (Some touch) (inr (room, granted)) head is apart
     }) head.line head.need ≡ true) room.wants.uncovered bit)
 
 -- what is missed on a line with a bit is missed to write
-missed_write : (cache : List (List Way)) (line : ℕ) (need : Need) → is_covered cache line need ≡ false → has_bit cache line ≡ true → need ≡ Write
+missed_write : (cache : List (List Way)) (line : ℕ) (need : Need) → is_covered cache line need ≡ false →
+    has_bit cache line ≡ true → need ≡ Write
 missed_write cache line Write uncovered bit = refl
 missed_write cache line Read uncovered bit = clash uncovered bit
 
@@ -277,23 +314,26 @@ missed_aside None g hart raised is = is
 missed_aside (Some request) g hart raised is = is
 
 -- the one bit of an armed section is a read bit on a line that no other hart waits to write, and so it meets no head
-reads_unmet : {X : Type 0} (state : ModelState) (h word : ℕ) (hart : Hart) (head : Request) → HasNoOtherBit word hart.cache →
-    is_wanted_to_write state h (line_number word) ≡ false → head_of state head.line ≡ Some head → head.hart ≢ h →
-    (need : Need) → head.need ≡ need → meets_bit hart head.line need ≡ true → X
+reads_unmet : {X : Type 0} (state : ModelState) (h word : ℕ) (hart : Hart) (head : Request) →
+    HasNoOtherBit word hart.cache → is_wanted_to_write state h (line_number word) ≡ false →
+    head_of state head.line ≡ Some head → head.hart ≢ h → (need : Need) → head.need ≡ need →
+    meets_bit hart head.line need ≡ true → X
 reads_unmet state h word hart head reads unwanted is apart Read need bit = clash (reads.unwritten head.line) bit
 reads_unmet {X} state h word hart head reads unwanted is apart Write need bit =
-    by (either (read_bit hart.cache head.line) (write_bit hart.cache head.line) bit) (cases_eq head.line (line_number word))
+    by (either (read_bit hart.cache head.line) (write_bit hart.cache head.line) bit)
+    (cases_eq head.line (line_number word))
   where
     by : (read_bit hart.cache head.line ≡ true) ⊎ (write_bit hart.cache head.line ≡ true) →
         (head.line ≡ line_number word) ⊎ (head.line ≡ line_number word → ⊥) → X
     by (inr written) where_it = clash (reads.unwritten head.line) written
     by (inl read) (inr other) = clash (reads.alone head.line other) read
     by (inl read) (inl same) =
-        clash (asked_not is_write state.order h (line_number word) head unwanted (subst (λ l. first_of state.order l ≡ Some head) same is) apart)
+        clash (asked_not is_write state.order h (line_number word) head unwanted
+        (subst (λ l. first_of state.order l ≡ Some head) same is) apart)
         (ap (λ n. is_write (record head { need = n })) need)
 
-elided_stepped : (state : ModelState) (h : ℕ) (armed : Armed) (swap : Swap) → MayElide state h armed swap → Grounds state →
-    Stepped state h (hart_after state h (Elides armed swap) (hart_of state h))
+elided_stepped : (state : ModelState) (h : ℕ) (armed : Armed) (swap : Swap) → MayElide state h armed swap →
+    Grounds state → Stepped state h (hart_after state h (Elides armed swap) (hart_of state h))
 elided_stepped state h armed swap does grounds =
     let old = hart_of state h in
     let reads = ((grounds.clean h).1 armed does.is_armed.armed_is).no_other in
@@ -304,17 +344,23 @@ elided_stepped state h armed swap does grounds =
     (λ head found own it_meets.
     reads_unmet state h armed.word old head reads it.unwanted own it_meets.other head.need refl
     (wanted_bit state h (line_number swap.word) Read old (hart_after state h (Elides armed swap) old) head
-    (ap (λ word. is_wanted_to_write state h (line_number word)) it.same ∙ it.unwanted) refl own it_meets.other it_meets.bit)))
+    (ap (λ word. is_wanted_to_write state h (line_number word)) it.same ∙ it.unwanted) refl own
+    it_meets.other it_meets.bit)))
 
 deed_stepped : (state : ModelState) (h : ℕ) (deed : Deed) → DoesWhere state h deed → Grounds state → Standing state →
     Stepped state h (hart_after state h deed (hart_of state h))
 deed_stepped state h Rests does grounds standing = unchanged state h standing
 deed_stepped state h Waits does grounds standing = unchanged state h standing
-deed_stepped state h (Misses line need) (inl misses) grounds standing = outside_stepped state h _ misses.outside.no_section
+deed_stepped state h (Misses line need) (inl misses) grounds standing =
+    outside_stepped state h _ misses.outside.no_section
 deed_stepped state h (Misses line need) (inr misses) grounds standing =
     let none = no_request state h misses.room.wants.goes.goes_on.is_short.inside.free in
     record {
-      retained = λ l is. (missed_aside (head_of state l) h (hart_of state h) _ is, record { attempt = refl; seen = no_less (hart_of state h).seen });
+      retained =
+          λ l is. (
+            missed_aside (head_of state l) h (hart_of state h) _ is,
+            record { attempt = refl; seen = no_less (hart_of state h).seen },
+          );
       raised = λ request is live bit.
           let e = same_Some _ _ is in
           subst (λ r. r.need ≡ Write) e
@@ -332,12 +378,14 @@ deed_stepped state h (Begins swap) does grounds standing =
     head_by state h l (hart_after state h (Begins swap) old) is
     (λ head found own it.
     clash (bare old head.line head.need ((grounds.clean h).0 does.outside.no_section does.outside.unarmed))
-    (wanted_bit state h line Read old (hart_after state h (Begins swap) old) head does.unwanted refl own it.other it.bit)))
+    (wanted_bit state h line Read old (hart_after state h (Begins swap) old) head does.unwanted refl own
+    it.other it.bit)))
 deed_stepped state h (Buffers section touch) does grounds standing =
     let inside = does.goes.goes_on.is_short.inside in
     free_stepped state h _ inside.free refl
     (λ l is.
-    buffered_retains state h l section (record section { count = section.count + 1 }) (covered (hart_of state h).cache touch) inside.live
+    buffered_retains state h l section (record section { count = section.count + 1 })
+    (covered (hart_of state h).cache touch) inside.live
     (touch_bits state h section (record section { count = section.count + 1 }) touch does.coverable) is)
 deed_stepped state h (Commits section) does grounds standing = outside_stepped state h _ refl
 deed_stepped state h (RollsBack section cause) does grounds standing = outside_stepped state h _ refl
@@ -350,7 +398,8 @@ deed_stepped state h (LetsGo armed) does grounds standing = outside_stepped stat
 done_stepped : (state : ModelState) (h : ℕ) (deed : Deed) → DoesWhere state h deed → Grounds state → Standing state →
     Each (Stepped state) (done state h deed).state
 done_stepped state h deed does grounds standing =
-    each_but (Stepped state) state h (hart_after state h deed (hart_of state h)) (deed_stepped state h deed does grounds standing)
+    each_but (Stepped state) state h (hart_after state h deed (hart_of state h))
+    (deed_stepped state h deed does grounds standing)
     (λ g apart. unchanged state g standing)
     (λ past. subst (Stepped state h) (hart_of-past state h past) (unchanged state h standing))
 
@@ -359,7 +408,8 @@ done_stands : (state : ModelState) (h : ℕ) (deed : Deed) → DoesWhere state h
 done_stands state h deed does grounds standing =
     let new = (done state h deed).state in
     let same : (g : ℕ) → contents (hart_of new g) ≡ contents (hart_of state g) =
-    with_hart_kept contents state h (hart_after state h deed (hart_of state h)) (deed_contents state h deed (hart_of state h)) in
+    with_hart_kept contents state h (hart_after state h deed (hart_of state h))
+    (deed_contents state h deed (hart_of state h)) in
     let moved = moved_aside state new refl (length-set state.harts h _) same in
     let stepped = done_stepped state h deed does grounds standing in
     record {
@@ -367,7 +417,8 @@ done_stands state h deed does grounds standing =
       retaining = record {
         may = λ g line on is.
             let kept = (stepped g).retained line is in
-            may_kept state new g line refl (λ origin request told waits. waits) (λ head is_head link. moved.links head.hart g link)
+            may_kept state new g line refl (λ origin request told waits. waits)
+            (λ head is_head link. moved.links head.hart g link)
             (record {
               attempt = kept.1.attempt;
               told = λ origin told. subst (λ all. has all.told origin ≡ true) (same g) told;

@@ -6,7 +6,8 @@ use Rattle.defer_list.specs.HartSet.{has}
 use Rattle.el_base.specs.declared.config.Mode.TheVariants.{Tlr}
 use Rattle.el_base.specs.declared.outcomes.Need.TheVariants.{Write}
 use Rattle.el_model.specs.Conflicts.{retains}
-use Rattle.el_model.specs.State.{Hart, ModelState, cache_of, hart_of, head_of, is_live, ordered_of, ordered_on, raised_of}
+use Rattle.el_model.specs.State.{Hart, ModelState, cache_of, hart_of, head_of, is_live, ordered_of, ordered_on}
+use Rattle.el_model.specs.State.{raised_of}
 use Rattle.mail.specs.Mailbox.{Marker, Probe, has_message}
 use Rattle.stamp.specs.Stamps.{Stamp, is_before}
 
@@ -36,7 +37,8 @@ pub record MayBeKnown (state : ModelState) (h origin : ℕ) : Type 0 where
 -- each of these requests has a link from the one before it, and the first from this hart
 abbrev pub AreLinked : ModelState → ℕ → List Request → Type 0
 AreLinked state before [] = Unit {0}
-AreLinked state before (request ∷ others) = IsLinked (hart_of state request.hart) before × AreLinked state request.hart others
+AreLinked state before (request ∷ others) =
+    IsLinked (hart_of state request.hart) before × AreLinked state request.hart others
 
 -- a queue is chained: each request but the first has a link from the one before it
 abbrev pub IsChained : ModelState → List Request → Type 0
@@ -57,31 +59,36 @@ pub record Messages (on : ℕ → Type 0) (state : ModelState) : Type 0 where
 
 -- the stamps of requests and attempts
 pub record Stamped (state : ModelState) : Type 0 where
-  pub raised : (h : ℕ) (request : Request) → raised_of state h ≡ Some request → request.stamp ≡ (hart_of state h).attempt
-  pub ordered : (h : ℕ) (request : Request) → ordered_of state h ≡ Some request → request.stamp ≡ (hart_of state h).attempt
+  pub raised : (h : ℕ) (request : Request) → raised_of state h ≡ Some request →
+      request.stamp ≡ (hart_of state h).attempt
+  pub ordered : (h : ℕ) (request : Request) → ordered_of state h ≡ Some request →
+      request.stamp ≡ (hart_of state h).attempt
   pub own : (h : ℕ) (stamp : Stamp) → (hart_of state h).attempt ≡ Some stamp → stamp.hart ≡ h
   pub opened : (h : ℕ) → is_live state h ≡ true → is_some (hart_of state h).attempt ≡ true
 
--- a section that retains a line has a link to the hart of its head, its hart has seen the clock of the head, and neither
--- the head nor an origin that its hart was told of and that waits for the line has a less stamp
+-- a section that retains a line has a link to the hart of its head, its hart has seen the clock of the head, and
+-- neither the head nor an origin that its hart was told of and that waits for the line has a less stamp
 pub record MayRetain (state : ModelState) (g line : ℕ) : Type 0 where
   pub link : (head : Request) → head_of state line ≡ Some head → IsLinked (hart_of state head.hart) g
   pub seen : (head : Request) (stamp : Stamp) → head_of state line ≡ Some head → head.stamp ≡ Some stamp →
       stamp.clock ≤ (hart_of state g).seen
-  pub not_after_head : (head : Request) → head_of state line ≡ Some head → is_before head.stamp (hart_of state g).attempt ≡ false
+  pub not_after_head : (head : Request) → head_of state line ≡ Some head →
+      is_before head.stamp (hart_of state g).attempt ≡ false
   pub not_after_told : (origin : ℕ) (request : Request) → has (hart_of state g).told origin ≡ true →
       ordered_on state origin line ≡ Some request → is_before request.stamp (hart_of state g).attempt ≡ false
 
 -- what sections have to do with requests
 pub record Retaining (on : ℕ → Type 0) (state : ModelState) : Type 0 where
   pub may : (g line : ℕ) → on line → retains state g line ≡ true → MayRetain state g line
-  -- a hart with a live section that has a bit on the line of its own request needs to write, and is the head once it is ordered
+  -- a hart with a live section that has a bit on the line of its own request needs to write, and
+  -- is the head once it is ordered
   pub raised : (h : ℕ) (request : Request) → raised_of state h ≡ Some request → is_live state h ≡ true →
       has_bit (cache_of state h) request.line ≡ true → request.need ≡ Write
   pub ordered : (h : ℕ) (request : Request) → ordered_of state h ≡ Some request → is_live state h ≡ true →
       has_bit (cache_of state h) request.line ≡ true → request.need ≡ Write
-  pub first : (h : ℕ) (request : Request) → on request.line → ordered_of state h ≡ Some request → is_live state h ≡ true →
-      has_bit (cache_of state h) request.line ≡ true → head_of state request.line ≡ Some request
+  pub first : (h : ℕ) (request : Request) → on request.line → ordered_of state h ≡ Some request →
+      is_live state h ≡ true → has_bit (cache_of state h) request.line ≡ true →
+      head_of state request.line ≡ Some request
 
 -- the facts of lock removal. Those on chains and on what retains a line are asked of the lines that are `on`: of every
 -- line between two events, and of every other line while one is given its new head

@@ -1,5 +1,6 @@
 -- the laws of lock removal
-use Rattle.std.specs.Prelude.{ℕ, ◌≡◌, ◌≢◌, ◌<◌, ◌≤◌, ◌==◌, ◌&&◌, ◌||◌, ◌⊎◌, Bool, true, false, List, [], ◌∷◌, Option, None, Some}
+use Rattle.std.specs.Prelude.{ℕ, ◌≡◌, ◌≢◌, ◌<◌, ◌≤◌, ◌==◌, ◌&&◌, ◌||◌, ◌⊎◌, Bool, true, false, List, [], ◌∷◌, Option}
+use Rattle.std.specs.Prelude.{None, Some}
 use Rattle.bus_order.specs.Order.{Request}
 use Rattle.el_base.specs.Config.{IsInRange}
 use Rattle.el_base.specs.HartId.{hart_id}
@@ -43,7 +44,8 @@ AttemptsAreCurrent =
 abbrev pub StampsAreDistinct : Type 0
 StampsAreDistinct =
     (program : Program) (config : Config) (events : List Event) (g h : ℕ) (stamp : Stamp) →
-    attempt_of (after program config events) g ≡ Some stamp → attempt_of (after program config events) h ≡ Some stamp → g ≡ h
+    attempt_of (after program config events) g ≡ Some stamp →
+    attempt_of (after program config events) h ≡ Some stamp → g ≡ h
 
 -- none of these events closes the attempt of a hart
 abbrev pub NeverCloses : ModelState → ℕ → List Event → Type 0
@@ -65,15 +67,16 @@ pub record IsLater (state : ModelState) (h : ℕ) (later : Stamp) : Type 0 where
 
 abbrev pub LaterAttemptsAreLater : Type 0
 LaterAttemptsAreLater =
-    (program : Program) (config : Config) (events between afterwards : List Event) (closing : Event) (h : ℕ) (later : Stamp) →
-    config.mode ≡ Tlr → closes (state_after (after program config events) between) closing h ≡ true →
-    attempt_of (state_after (next (state_after (after program config events) between) closing).state afterwards) h ≡ Some later →
-    IsLater (after program config events) h later
+    (program : Program) (config : Config) (events between afterwards : List Event) (closing : Event) (h : ℕ)
+    (later : Stamp) → config.mode ≡ Tlr → closes (state_after (after program config events) between) closing h ≡ true →
+    attempt_of (state_after (next (state_after (after program config events) between) closing).state afterwards) h
+    ≡ Some later → IsLater (after program config events) h later
 
 -- the facts of lock removal hold of every state that can be reached
 abbrev pub FactsHoldThroughout : Type 0
 FactsHoldThroughout =
-    (program : Program) (config : Config) (events : List Event) → config.mode ≡ Tlr → Facts Everywhere (after program config events)
+    (program : Program) (config : Config) (events : List Event) → config.mode ≡ Tlr →
+    Facts Everywhere (after program config events)
 
 -- a hart whose request waits for a line with a stamp less than that of each other hart's live section
 pub record WaitsWithLeast (state : ModelState) (h line : ℕ) (request : Request) : Type 0 where
@@ -94,7 +97,8 @@ LeastStampIsNotRetained =
     WaitsWithLeast (after program config events) h line request → IsDelivered (after program config events) line →
     retains (after program config events) g line ≡ false
 
--- whom a hart lost to: a hart whose request waits, with a stamp less than that of the loser's open attempt; its clock is seen
+-- whom a hart lost to: a hart whose request waits, with a stamp less than that of the loser's
+-- open attempt; its clock is seen
 pub record LosesToEarlier (state : ModelState) (g winner : ℕ) : Type 0 where
   pub request : Request
   pub waits : ordered_of state winner ≡ Some request
@@ -116,28 +120,32 @@ pub record HasLeast (state : ModelState) (h : ℕ) (stamp : Stamp) : Type 0 wher
 -- no event names it among its losers
 abbrev pub LeastStampNeverLoses : Type 0
 LeastStampNeverLoses =
-    (program : Program) (config : Config) (events : List Event) (event : Event) (h : ℕ) (stamp : Stamp) → config.mode ≡ Tlr →
-    HasLeast (after program config events) h stamp → winner_over (next (after program config events) event).outcome h ≡ None
+    (program : Program) (config : Config) (events : List Event) (event : Event) (h : ℕ) (stamp : Stamp) →
+    config.mode ≡ Tlr → HasLeast (after program config events) h stamp →
+    winner_over (next (after program config events) event).outcome h ≡ None
 
 -- once an attempt has closed, each later one of its hart has a greater clock than the winner that the hart lost to
 abbrev pub LaterThanWinners : Type 0
 LaterThanWinners =
-    (program : Program) (config : Config) (events between afterwards : List Event) (event closing : Event) (g winner : ℕ) (request : Request)
-    (stamp later : Stamp) → config.mode ≡ Tlr → winner_over (next (after program config events) event).outcome g ≡ Some winner →
+    (program : Program) (config : Config) (events between afterwards : List Event) (event closing : Event)
+    (g winner : ℕ) (request : Request)
+    (stamp later : Stamp) → config.mode ≡ Tlr →
+    winner_over (next (after program config events) event).outcome g ≡ Some winner →
     ordered_of (next (after program config events) event).state winner ≡ Some request → request.stamp ≡ Some stamp →
     closes (state_after (next (after program config events) event).state between) closing g ≡ true →
-    attempt_of (state_after (next (state_after (next (after program config events) event).state between) closing).state afterwards) g ≡ Some later →
-    stamp.clock < later.clock
+    attempt_of (state_after (next (state_after (next (after program config events) event).state between) closing).state
+    afterwards) g ≡ Some later → stamp.clock < later.clock
 
 -- and than the head of a line that the hart's section retained
 abbrev pub LaterThanDeferredHeads : Type 0
 LaterThanDeferredHeads =
-    (program : Program) (config : Config) (events between afterwards : List Event) (closing : Event) (g line : ℕ) (head : Request)
+    (program : Program) (config : Config) (events between afterwards : List Event) (closing : Event) (g line : ℕ)
+    (head : Request)
     (stamp later : Stamp) → config.mode ≡ Tlr → retains (after program config events) g line ≡ true →
     head_of (after program config events) line ≡ Some head → head.stamp ≡ Some stamp →
     closes (state_after (after program config events) between) closing g ≡ true →
-    attempt_of (state_after (next (state_after (after program config events) between) closing).state afterwards) g ≡ Some later →
-    stamp.clock < later.clock
+    attempt_of (state_after (next (state_after (after program config events) between) closing).state afterwards) g
+    ≡ Some later → stamp.clock < later.clock
 
 -- an outcome of a served request
 abbrev pub is_served : Outcome → Bool
@@ -151,19 +159,22 @@ pub record IsLocked (state : ModelState) (line : ℕ) (outcome : Outcome) : Type
   pub holds : (hart_of state holder).held_line ≡ Some line
   pub outside : section_of state holder ≡ None
 
--- once the messages of a line are delivered, and a hart waits for it with the least stamp, its head is served, unless the line is locked
+-- once the messages of a line are delivered, and a hart waits for it with the least stamp, its head is
+-- served, unless the line is locked
 abbrev pub HeadIsServed : Type 0
 HeadIsServed =
-    (program : Program) (config : Config) (events : List Event) (event : Event) (h line : ℕ) (request head : Request) → config.mode ≡ Tlr →
-    WaitsWithLeast (after program config events) h line request → IsDelivered (after program config events) line →
-    head_of (after program config events) line ≡ Some head → event.kind ≡ kinds.Serve → event.hart.number ≡ head.hart →
+    (program : Program) (config : Config) (events : List Event) (event : Event) (h line : ℕ) (request head : Request) →
+    config.mode ≡ Tlr → WaitsWithLeast (after program config events) h line request →
+    IsDelivered (after program config events) line → head_of (after program config events) line ≡ Some head →
+    event.kind ≡ kinds.Serve → event.hart.number ≡ head.hart →
     (is_served (next (after program config events) event).outcome ≡ true)
     ⊎ IsLocked (after program config events) line (next (after program config events) event).outcome
 
 -- what ends the section of such a hart is its own commit or its own rollback
 abbrev pub LeastEndsItsOwnSection : Type 0
 LeastEndsItsOwnSection =
-    (program : Program) (config : Config) (events : List Event) (event : Event) (h : ℕ) (stamp : Stamp) → config.mode ≡ Tlr →
-    program.harts ≡ config.harts → IsInRange config → HasLeast (after program config events) h stamp →
-    is_live (after program config events) h ≡ true → is_live (next (after program config events) event).state h ≡ false →
+    (program : Program) (config : Config) (events : List Event) (event : Event) (h : ℕ) (stamp : Stamp) →
+    config.mode ≡ Tlr → program.harts ≡ config.harts → IsInRange config →
+    HasLeast (after program config events) h stamp → is_live (after program config events) h ≡ true →
+    is_live (next (after program config events) event).state h ≡ false →
     closes (after program config events) event h ≡ true

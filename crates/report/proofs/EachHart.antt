@@ -13,15 +13,16 @@ module _ (piece : ℕ → List ℕ) where
   in_range harts number within = rw (length-range_with_len 0 harts) within
 
   pub each_more : (before between now : SinkState) (harts number : ℕ) → number < harts →
-      PutAll before between (flat_map piece (take number (range_with_len 0 harts))) → PutAll between now (piece number) →
+      PutAll before between (flat_map piece (take number (range_with_len 0 harts))) →
+      PutAll between now (piece number) →
       PutAll before now (flat_map piece (take (number + 1) (range_with_len 0 harts)))
   each_more before between now harts number within a b =
       one_more_put piece before between now (range_with_len 0 harts) number 0 (in_range harts number within) a
       (subst (λ bytes. PutAll between now bytes) (piece_at harts number within) b)
 
   pub each_failed : (before between now : SinkState) (harts number : ℕ) → number < harts →
-      PutAll before between (flat_map piece (take number (range_with_len 0 harts))) → PutPart between now (piece number) →
-      PutPart before now (flat_map piece (range_with_len 0 harts))
+      PutAll before between (flat_map piece (take number (range_with_len 0 harts))) →
+      PutPart between now (piece number) → PutPart before now (flat_map piece (range_with_len 0 harts))
   each_failed before between now harts number within a b =
       one_failed piece before between now (range_with_len 0 harts) number 0 (in_range harts number within) a
       (subst (λ bytes. PutPart between now bytes) (piece_at harts number within) b)

@@ -1,5 +1,6 @@
 -- Putting the places at which a hart comes to a pc, one after another.
-use Rattle.std.proofs.Common.{◌≡◌, ◌≤◌, ◌-◌, ◌+◌, ℕ, List, [], ◌∷◌, ◌++◌, length, ap, subst, sym, ◌∙◌, append-nil, append_assoc}
+use Rattle.std.proofs.Common.{◌≡◌, ◌≤◌, ◌-◌, ◌+◌, ℕ, List, [], ◌∷◌, ◌++◌, length, ap, subst, sym, ◌∙◌, append-nil}
+use Rattle.std.proofs.Common.{append_assoc}
 use Rattle.std.proofs.lemmas.Grind.{flat_map-append}
 use Rattle.std.specs.List.{filter, flat_map, range_with_len}
 use Rattle.report.proofs.Putting.{put_stopped, put_then_all, put_then_part, same_part}
@@ -21,7 +22,8 @@ module _ (standing : Standing) (hart pc : ℕ) where
 
   pub put_next : (before between now : SinkState) (place : ℕ) → IsNext standing hart pc place →
       PutAll before between (flat_map number_line (places_to standing hart pc standing.place)) →
-      PutAll between now (number_line place) → PutAll before now (flat_map number_line (places_to standing hart pc place))
+      PutAll between now (number_line place) →
+      PutAll before now (flat_map number_line (places_to standing hart pc place))
   put_next before between now place next a b =
       subst (λ text. PutAll before now text) (sym (one_more place next))
       (put_then_all before between now (text_to standing.place) (number_line place) a b)
@@ -29,7 +31,8 @@ module _ (standing : Standing) (hart pc : ℕ) where
   abbrev rest_of : ℕ → List ℕ
   rest_of place =
       flat_map number_line
-      (filter (comes_to standing.program standing.entries hart pc) (range_with_len (1 + place) (length standing.entries - place)))
+      (filter (comes_to standing.program standing.entries hart pc)
+      (range_with_len (1 + place) (length standing.entries - place)))
 
   whole : (place : ℕ) → IsNext standing hart pc place →
       text_to standing.place ++ (number_line place ++ rest_of place)
@@ -42,16 +45,19 @@ module _ (standing : Standing) (hart pc : ℕ) where
 
   pub put_failed : (before between now : SinkState) (place : ℕ) → IsNext standing hart pc place →
       PutAll before between (flat_map number_line (places_to standing hart pc standing.place)) →
-      PutPart between now (number_line place) → PutPart before now (found_text standing.program standing.entries hart pc)
+      PutPart between now (number_line place) →
+      PutPart before now (found_text standing.program standing.entries hart pc)
   put_failed before between now place next a b =
       same_part before now _ _ (whole place next)
-      (put_then_part before between now (text_to standing.place) _ a (put_stopped between now (number_line place) (rest_of place) b))
+      (put_then_part before between now (text_to standing.place) _ a
+      (put_stopped between now (number_line place) (rest_of place) b))
 
   pub put_last : (before now : SinkState) → standing.place ≤ length standing.entries → HasNoNext standing hart pc →
       PutAll before now (flat_map number_line (places_to standing hart pc standing.place)) →
       PutAll before now (found_text standing.program standing.entries hart pc)
   put_last before now within none a =
-      subst (λ text. PutAll before now text) (sym (ap (flat_map number_line) (last_place standing hart pc within none))) a
+      subst (λ text. PutAll before now text) (sym (ap (flat_map number_line) (last_place standing hart pc within none)))
+      a
 
 -- the same at the standings that a loop goes through
 pub still_within : (standing next : Standing) (hart pc : ℕ) → next ≡ record standing { place = next.place } →
@@ -73,7 +79,8 @@ module _ (first standing : Standing) (hart pc : ℕ) (same : standing ≡ record
     pub one_told : PutAll between now (number_line number) →
         PutAll before now (flat_map number_line (places_to next hart pc next.place))
     one_told line =
-        subst (λ (one : Standing). PutAll before now (flat_map number_line (places_to one hart pc next.place))) (sym moved)
+        subst (λ (one : Standing). PutAll before now (flat_map number_line (places_to one hart pc next.place)))
+        (sym moved)
         (put_next standing hart pc before between now next.place is put
         (subst (λ n. PutAll between now (number_line n)) told line))
 

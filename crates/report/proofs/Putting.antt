@@ -90,7 +90,9 @@ module _ {X : Type 0} (piece : X → List ℕ) where
 
 -- a line of words that stand in two lists
 pub line_of_words : (first : List ℕ) (words more : List Word) →
-    first ++ (flat_map (λ word. spaced (bytes_of word)) words ++ (flat_map (λ word. spaced (bytes_of word)) more ++ (10 ∷ [])))
+    first
+    ++ (flat_map (λ word. spaced (bytes_of word)) words
+    ++ (flat_map (λ word. spaced (bytes_of word)) more ++ (10 ∷ [])))
     ≡ line first (map bytes_of words ++ map bytes_of more)
 line_of_words first words more =
     ap (λ rest. first ++ rest)
@@ -98,5 +100,6 @@ line_of_words first words more =
     (flat_map-append spaced (map bytes_of words) (map bytes_of more)
     ∙ ap (λ bytes. bytes ++ flat_map spaced (map bytes_of more)) (flat_map-map spaced bytes_of words)
     ∙ ap (λ bytes. flat_map (λ word. spaced (bytes_of word)) words ++ bytes) (flat_map-map spaced bytes_of more))
-    ∙ append_assoc (flat_map (λ word. spaced (bytes_of word)) words) (flat_map (λ word. spaced (bytes_of word)) more) (10 ∷ [])))
+    ∙ append_assoc (flat_map (λ word. spaced (bytes_of word)) words)
+    (flat_map (λ word. spaced (bytes_of word)) more) (10 ∷ [])))
     ∙ sym (append_assoc first (flat_map spaced (map bytes_of words ++ map bytes_of more)) (10 ∷ []))

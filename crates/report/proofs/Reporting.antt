@@ -13,14 +13,17 @@ use Rattle.report.proofs.Putting.{put_stopped, put_then, put_then_part, same_par
 use Rattle.report.proofs.Laws.Puts.{same_puts}
 use Rattle.report.specs.Line.{line}
 use Rattle.report.specs.Puts.{PutAll, PutPart, Puts, SinkState}
-use Rattle.report.specs.Text.{count_words, first_line, hart_line, hart_lines, last_line, report_of, report_text, status_words}
+use Rattle.report.specs.Text.{count_words, first_line, hart_line, hart_lines, last_line, report_of, report_text}
+use Rattle.report.specs.Text.{status_words}
 use Rattle.rv_alu.specs.declared.view.HartStatus.{HartStatus}
 use Rattle.rv_flat.specs.FlatState.{FlatState, status_of}
 
 -- the line of a hart, of its two parts
-pub hart_line_put : (result : Result (Unit {0}) Failed) (before now : SinkState) (number : ℕ) (tally : Tally) (status : HartStatus)
+pub hart_line_put : (result : Result (Unit {0}) Failed) (before now : SinkState) (number : ℕ) (tally : Tally)
+    (status : HartStatus)
     (counts more : List (List ℕ)) → counts ≡ decimal number ∷ count_words tally → more ≡ status_words status →
-    Puts result before now (line (codes "hart") (counts ++ more)) → Puts result before now (hart_line number tally status)
+    Puts result before now (line (codes "hart") (counts ++ more)) →
+    Puts result before now (hart_line number tally status)
 unfolding hart_line
 hart_line_put result before now number tally status counts more first second put =
     same_puts result before now _ _
@@ -39,29 +42,39 @@ report_parts : (story : Story) (config : Config) (events steps output : ℕ) →
     ≡ report_of story
 unfolding report_text
 report_parts story config events steps output configured counted served put =
-    ap (λ c. first_line c events ++ (hart_lines story.config.harts story.entries (status_of (committed story)) ++ last_line steps output)) configured
-    ∙ ap (λ n. first_line story.config n ++ (hart_lines story.config.harts story.entries (status_of (committed story)) ++ last_line steps output)) counted
+    ap
+    (λ c. first_line c events
+    ++ (hart_lines story.config.harts story.entries (status_of (committed story)) ++ last_line steps output))
+    configured
+    ∙ ap
+    (λ n. first_line story.config n
+    ++ (hart_lines story.config.harts story.entries (status_of (committed story)) ++ last_line steps output))
+    counted
     ∙ ap (λ n.
-    first_line story.config (length story.entries) ++ (hart_lines story.config.harts story.entries (status_of (committed story)) ++ last_line n output)) served
+    first_line story.config (length story.entries)
+    ++ (hart_lines story.config.harts story.entries (status_of (committed story)) ++ last_line n output)) served
     ∙ ap (λ n.
     first_line story.config (length story.entries) ++ (hart_lines story.config.harts story.entries
     (status_of (committed story)) ++ last_line (length (serial story.entries)) n)) put
     ∙ sym (append_assoc (first_line story.config (length story.entries)) _ _)
 
-pub report_stopped_at_first : (before now : SinkState) (story : Story) (config : Config) (events : ℕ) → config ≡ story.config →
-    events ≡ length story.entries → PutPart before now (first_line config events) → PutPart before now (report_of story)
+pub report_stopped_at_first : (before now : SinkState) (story : Story) (config : Config) (events : ℕ) →
+    config ≡ story.config → events ≡ length story.entries → PutPart before now (first_line config events) →
+    PutPart before now (report_of story)
 report_stopped_at_first before now story config events configured counted a =
-    same_part before now _ _ (report_parts story config events _ _ configured counted refl refl) (put_stopped before now _ _ a)
+    same_part before now _ _ (report_parts story config events _ _ configured counted refl refl)
+    (put_stopped before now _ _ a)
 
-pub report_stopped_at_hart : (before between now : SinkState) (story : Story) (config : Config) (events : ℕ) → config ≡ story.config →
-    events ≡ length story.entries → PutAll before between (first_line config events) →
+pub report_stopped_at_hart : (before between now : SinkState) (story : Story) (config : Config) (events : ℕ) →
+    config ≡ story.config → events ≡ length story.entries → PutAll before between (first_line config events) →
     PutPart between now (hart_lines story.config.harts story.entries (status_of (committed story))) →
     PutPart before now (report_of story)
 report_stopped_at_hart before between now story config events configured counted a b =
     same_part before now _ _ (report_parts story config events _ _ configured counted refl refl)
     (put_then_part before between now _ _ a (put_stopped between now _ _ b))
 
-pub report_put : (result : Result (Unit {0}) Failed) (before between later now : SinkState) (story : Story) (config : Config)
+pub report_put : (result : Result (Unit {0}) Failed) (before between later now : SinkState) (story : Story)
+    (config : Config)
     (events steps output : ℕ) → config ≡ story.config → events ≡ length story.entries →
     steps ≡ length (serial story.entries) → output ≡ length (committed story).output →
     PutAll before between (first_line config events) →

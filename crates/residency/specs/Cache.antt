@@ -1,12 +1,14 @@
 -- one hart's cache: a list of sets, of which a line may be in one
-use Rattle.std.specs.Prelude.{ℕ, ◌%◌, Bool, false, ◌||◌, List, [], length, map, replicate, Option, None, Some, is_some, sum_by, count_by, slice_index_or}
+use Rattle.std.specs.Prelude.{ℕ, ◌%◌, Bool, false, ◌||◌, List, [], length, map, replicate, Option, None, Some, is_some}
+use Rattle.std.specs.Prelude.{sum_by, count_by, slice_index_or}
 use Rattle.std.specs.Prelude.{slice_set, if◌then◌else◌}
 use Rattle.std.specs.List.{list_any}
 use Rattle.el_base.specs.declared.outcomes.Need.{Need}
 use Rattle.el_base.specs.declared.outcomes.Need.TheVariants.{Read, Write}
 use Rattle.moesi.specs.declared.letter.Letter.{Letter}
 use Rattle.moesi.specs.declared.letter.Letter.TheVariants.{I, M}
-use Rattle.residency.specs.Residency.{Way, changed_in, dropped, evicted_in, filled_in, is_marked, room_in, touched_in, way_in, with_bit, with_letter}
+use Rattle.residency.specs.Residency.{Way, changed_in, dropped, evicted_in, filled_in, is_marked, room_in, touched_in}
+use Rattle.residency.specs.Residency.{way_in, with_bit, with_letter}
 use Rattle.residency.specs.Residency.{without_bits}
 
 -- a cache of so many sets, all empty

@@ -12,6 +12,7 @@ pub record IsWellFormed (ways : ℕ) (cache : List (List Way)) : Type 0 where
   -- no set has a line twice
   pub once : (line l : ℕ) → count_by (λ way. way.line == l) (set_of cache line) ≤ 1
   -- a line is in no set but its own
-  pub home : (line l : ℕ) (way : Way) → way_in (set_of cache line) l ≡ Some way → set_number cache l ≡ set_number cache line
+  pub home : (line l : ℕ) (way : Way) → way_in (set_of cache line) l ≡ Some way →
+      set_number cache l ≡ set_number cache line
   -- a line that is there has another letter than I
   pub valid : (line l : ℕ) (way : Way) → way_in (set_of cache line) l ≡ Some way → way.letter ≢ I

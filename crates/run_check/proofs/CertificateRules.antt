@@ -4,7 +4,8 @@ use Rattle.std.proofs.Common.{[], ◌∷◌, ◌++◌, length, drop, refl, sym, 
 use Rattle.std.specs.Prelude.{replicate, slice_index_or, All}
 use Rattle.std.proofs.lemmas.Bool.{cases_lt}
 use Rattle.std.proofs.lemmas.Bool.Decides.{nat_tests}
-use Rattle.std.proofs.lemmas.List.{append-nil, get_or_append_left, get_or_at, length-append, length-drop, length-take-le}
+use Rattle.std.proofs.lemmas.List.{append-nil, get_or_append_left, get_or_at, length-append, length-drop}
+use Rattle.std.proofs.lemmas.List.{length-take-le}
 use Rattle.el_base.proofs.Laws.HartIds.{hart_id-number}
 use Rattle.el_base.proofs.Laws.Lines.{line_addr-number}
 use Rattle.el_base.specs.HartId.{hart_id}

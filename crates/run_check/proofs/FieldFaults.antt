@@ -118,7 +118,8 @@ view_passes file views hart whole right =
 wrong_none : (file : List ℕ) (place wanted : ℕ) (kind : FaultKind) → wrong file place wanted kind ≡ None →
     get_or file place 0 ≡ wanted
 wrong_none file place wanted kind none =
-    same_unless_other (get_or file place 0) wanted (cond_none (not (get_or file place 0 == wanted)) (fault_of kind place) None none).0
+    same_unless_other (get_or file place 0) wanted
+    (cond_none (not (get_or file place 0 == wanted)) (fault_of kind place) None none).0
 
 pub record HeadRight (file : List ℕ) : Type 0 where
   pub first : get_or file 0 0 ≡ 0x45
@@ -206,7 +207,8 @@ line_count_passes file place few whole =
 
 pub tail_right : (file : List ℕ) (end : ℕ) → tail_fault file end ≡ None → length file ≤ end
 unfolding tail_fault
-tail_right file end none = not_over end (length file) (cond_none (ltb end (length file)) (fault_of kinds.Tail end) None none).0
+tail_right file end none =
+    not_over end (length file) (cond_none (ltb end (length file)) (fault_of kinds.Tail end) None none).0
 
 pub tail_passes : (file : List ℕ) (end : ℕ) → length file ≤ end → tail_fault file end ≡ None
 unfolding tail_fault

@@ -316,7 +316,8 @@ record ViewStands (file : List ℕ) (place : ℕ) (view : HartView) : Type 0 whe
   reserved : StandsAt file (place + 128) (reserved_bytes view.reserved)
   status : StandsAt file (place + 133) (status_bytes view.status)
 
-front : {file : List ℕ} {place : ℕ} (first more : List ℕ) → StandsAt file place (first ++ more) → StandsAt file place first
+front : {file : List ℕ} {place : ℕ} (first more : List ℕ) → StandsAt file place (first ++ more) →
+    StandsAt file place first
 front first more s = record { rest = more ++ s.rest; is = s.is ∙ append_assoc first more s.rest }
 
 view_parts : (file : List ℕ) (place : ℕ) (view : HartView) → IsView view → StandsAt file place (view_bytes view) →

@@ -2,7 +2,8 @@
 use Rattle.std.specs.Prelude.{ℕ, ◌==◌, List, [], ◌∷◌, Option, find, option_map, codes}
 use Rattle.el_base.specs.declared.file_fault.FileFault.{FileFault}
 use Rattle.run_check.specs.declared.fault.FaultKind.{FaultKind}
-use Rattle.run_check.specs.declared.fault.FaultKind.TheVariants.{Short, Magic, Version, Harts, Stretch, View, Output, Lines, Tail}
+use Rattle.run_check.specs.declared.fault.FaultKind.TheVariants.{Short, Magic, Version, Harts, Stretch, View, Output}
+use Rattle.run_check.specs.declared.fault.FaultKind.TheVariants.{Lines, Tail}
 
 -- the number of a kind of fault
 abbrev pub number_of : FaultKind → ℕ

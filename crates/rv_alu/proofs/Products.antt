@@ -4,7 +4,8 @@ use Rattle.std.specs.Int.{cast_signed, cast_unsigned}
 
 -- 64 bits hold the product of two numbers of 32 bits
 pub wide_product : (x y : ℤ) → FitsSigned w32 x → FitsSigned w32 y
-    → cast_signed w64 (cast_unsigned w64 (cast_signed w64 (cast_unsigned w64 x) *ℤ cast_signed w64 (cast_unsigned w64 y)))
+    →
+    cast_signed w64 (cast_unsigned w64 (cast_signed w64 (cast_unsigned w64 x) *ℤ cast_signed w64 (cast_unsigned w64 y)))
     ≡ x *ℤ y
 wide_product x y narrow narrow' =
     let left : FitsSigned w64 x = omega (arith, ints) in

@@ -137,16 +137,19 @@ store_behind_the_end : storing 0x10040 ≡ Trap 7
 unfolding action_of
 store_behind_the_end = refl
 
-offset_wraps : access_of (insns.Load loads.Byte target source (negsuc 0)) 0x10000 (through 0x10040) None line 0 ≡ Read 0x1003f 1
+offset_wraps : access_of (insns.Load loads.Byte target source (negsuc 0)) 0x10000 (through 0x10040) None line 0
+    ≡ Read 0x1003f 1
 unfolding action_of
 offset_wraps = refl
 
 -- a store conditional touches its word where that is reserved
-reserved : access_of (insns.Sc target source target false false) 0x10000 (through 0x10004) (Some 0x10004) line 0 ≡ Write 0x10004 4
+reserved : access_of (insns.Sc target source target false false) 0x10000 (through 0x10004) (Some 0x10004) line 0
+    ≡ Write 0x10004 4
 unfolding action_of
 reserved = refl
 
-other_word_reserved : access_of (insns.Sc target source target false false) 0x10000 (through 0x10004) (Some 0x10000) line 0 ≡ Nothing
+other_word_reserved : access_of (insns.Sc target source target false false) 0x10000 (through 0x10004) (Some 0x10000)
+    line 0 ≡ Nothing
 unfolding action_of
 other_word_reserved = refl
 

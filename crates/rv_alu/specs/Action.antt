@@ -11,10 +11,12 @@ use Rattle.rv_word.specs.declared.insn.StoreWidth.{StoreWidth}
 use Rattle.rv_word.specs.declared.insn.StoreWidth.TheVariants as stores
 use Rattle.rv_word.specs.declared.reg.Reg.{Reg}
 use Rattle.rv_alu.specs.declared.action.Action.{Action}
-use Rattle.rv_alu.specs.declared.action.Action.TheVariants.{Trap, Put, JumpAndLink, Go, Load, LoadReserved, Store, StoreConditional, Fail, Amo}
+use Rattle.rv_alu.specs.declared.action.Action.TheVariants.{Trap, Put, JumpAndLink, Go, Load, LoadReserved, Store}
+use Rattle.rv_alu.specs.declared.action.Action.TheVariants.{StoreConditional, Fail, Amo}
 use Rattle.rv_alu.specs.declared.span.Span.{Span}
 use Rattle.rv_alu.specs.declared.view.HartView.{HartView}
-use Rattle.rv_alu.specs.Cause.{breakpoint, illegal_instruction, instruction_access_fault, instruction_address_misaligned, load_access_fault}
+use Rattle.rv_alu.specs.Cause.{breakpoint, illegal_instruction, instruction_access_fault}
+use Rattle.rv_alu.specs.Cause.{instruction_address_misaligned, load_access_fault}
 use Rattle.rv_alu.specs.Cause.{load_address_misaligned, store_access_fault, store_address_misaligned}
 use Rattle.rv_alu.specs.Operation.{alu_of, moved_of, plus, taken_of}
 use Rattle.rv_alu.specs.Regs.{get}
@@ -92,7 +94,8 @@ action_of (insns.Jalr rd rs1 offset) pc regs reserved span room =
 action_of (insns.Branch test rs1 rs2 offset) pc regs reserved span room =
     branch_of pc (taken_of test (get regs rs1.number) (get regs rs2.number)) offset
 action_of (insns.Load width rd rs1 offset) pc regs reserved span room =
-    let address = moved_of (get regs rs1.number) offset in load_of span address (load_size_of width) (Load width rd address)
+    let address =
+    moved_of (get regs rs1.number) offset in load_of span address (load_size_of width) (Load width rd address)
 action_of (insns.Store width rs1 rs2 offset) pc regs reserved span room =
     store_value_of span (moved_of (get regs rs1.number) offset) (store_size_of width) (get regs rs2.number)
 action_of (insns.OpImm op rd rs1 imm) pc regs reserved span room =

@@ -57,7 +57,8 @@ perform (actions.Put rd value) view byte = Goes (put_of view rd.number value) No
 perform (actions.JumpAndLink rd target) view byte = Goes (link_of view rd.number target) None None
 perform (actions.Go target) view byte = Goes (record view { pc = target }) None None
 perform (actions.Answer value) view byte = Goes (put_of view a0 value) None None
-perform (actions.Append address len) view byte = Goes (put_of view a0 len) None (Some (record { address = address; len = len }))
+perform (actions.Append address len) view byte =
+    Goes (put_of view a0 len) None (Some (record { address = address; len = len }))
 perform (actions.Load width rd address) view byte =
     Goes (put_of view rd.number (extend_of width (loaded byte address (load_size_of width)))) None None
 perform (actions.LoadReserved rd address) view byte =
@@ -69,7 +70,8 @@ perform (actions.StoreConditional rd address value) view byte =
 perform (actions.Fail rd) view byte = Goes (release_of (put_of view rd.number 1)) None None
 perform (actions.Amo op rd address source) view byte =
     let old = loaded byte address 4 in
-    Goes (release_of (put_of view rd.number old)) (Some (record { address = address; len = 4; value = amo_of op old source })) None
+    Goes (release_of (put_of view rd.number old))
+    (Some (record { address = address; len = 4; value = amo_of op old source })) None
 
 -- what a hart's next instruction does, given the word at its pc (none where there is no code), its view, where
 -- memory lies, how many bytes the output has room for, and each byte of memory

@@ -107,7 +107,8 @@ IsAppendIn span room append = IsPiece span append.address append.len × (append.
 -- the same of all that an action loads, stores or appends
 abbrev pub IsInPlace : Span → ℕ → Action → Type 0
 IsInPlace span room (actions.Append address len) = IsPiece span address len × (len ≤ room)
-IsInPlace span room (actions.Load width rd address) = IsPiece span address (load_size_of width) × IsSize (load_size_of width)
+IsInPlace span room (actions.Load width rd address) =
+    IsPiece span address (load_size_of width) × IsSize (load_size_of width)
 IsInPlace span room (actions.LoadReserved rd address) = IsPiece span address 4
 IsInPlace span room (actions.Store address len value) = IsPiece span address len × IsSize len
 IsInPlace span room (actions.StoreConditional rd address value) = IsPiece span address 4

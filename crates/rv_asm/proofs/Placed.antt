@@ -1,12 +1,14 @@
 -- What a program has of which no label is unplaced and none is far.
-use Rattle.std.proofs.Common.{◌≡◌, ℕ, ◌+◌, ◌<◌, ◌≤◌, List, [], ◌∷◌, length, zero, suc, Option, Some, None, Bool, false, refl, arith}
+use Rattle.std.proofs.Common.{◌≡◌, ℕ, ◌+◌, ◌<◌, ◌≤◌, List, [], ◌∷◌, length, zero, suc, Option, Some, None, Bool, false}
+use Rattle.std.proofs.Common.{refl, arith}
 use Rattle.std.specs.Prelude.{fold, find, IsSome, slice_get, min}
 use Rattle.std.specs.List.{filter_map, range_with_len}
 use Rattle.std.specs.Option.{option_and_then}
 use Rattle.rv_asm.specs.declared.item.Item.{Item}
 use Rattle.rv_asm.specs.declared.item.Item.TheVariants.{Fixed, BranchTo, JumpTo}
 use Rattle.rv_asm.specs.Assembly.{Assembly}
-use Rattle.rv_asm.specs.Finished.{lesser, least_of, unplaced_label, first_unplaced, item_insn, insn_at, is_far_at, first_far}
+use Rattle.rv_asm.specs.Finished.{lesser, least_of, unplaced_label, first_unplaced, item_insn, insn_at, is_far_at}
+use Rattle.rv_asm.specs.Finished.{first_far}
 
 -- there is a least number as soon as there is one
 some_least : (numbers : List ℕ) (least : ℕ) → fold lesser (Some least) numbers ≡ None → ⊥
@@ -24,7 +26,8 @@ gives_none h (y ∷ xs) zero x none there = grind arith
 gives_none h (y ∷ xs) (suc place) x none there = grind (arith, gives_none h xs place x)
 gives_none h [] place x none there = cc
 
-gives_none_further : {X Y : Type 0} (h : X → Option Y) (x : X) (xs : List X) → filter_map h (x ∷ xs) ≡ [] → filter_map h xs ≡ []
+gives_none_further : {X Y : Type 0} (h : X → Option Y) (x : X) (xs : List X) → filter_map h (x ∷ xs) ≡ [] →
+    filter_map h xs ≡ []
 gives_none_further h x xs none = grind arith
 
 -- what is not found in a range is true of nothing there
@@ -34,7 +37,8 @@ not_found p from zero place none low high = absurd (omega arith)
 not_found p from (suc count) place none low high = grind (arith, not_found p (from + 1) count place)
 
 -- an item whose label is no unplaced one has an instruction
-has_insn : (asm : Assembly) (place : ℕ) (item : Item) → unplaced_label asm item ≡ None → IsSome (item_insn asm place item)
+has_insn : (asm : Assembly) (place : ℕ) (item : Item) → unplaced_label asm item ≡ None →
+    IsSome (item_insn asm place item)
 has_insn asm place (Fixed insn) placed = refl
 has_insn asm place (BranchTo test rs1 rs2 label) placed = grind arith
 has_insn asm place (JumpTo rd label) placed = grind arith
@@ -48,11 +52,13 @@ insn_from asm (item ∷ items) place zero placed within =
 insn_from asm (item ∷ items) place (suc there) placed within =
     insn_from asm items place there (gives_none_further (unplaced_label asm) item items placed) (omega arith)
 
-pub placed_insn : (asm : Assembly) (place : ℕ) → first_unplaced asm ≡ None → place < length asm.items → IsSome (insn_at asm place)
+pub placed_insn : (asm : Assembly) (place : ℕ) → first_unplaced asm ≡ None → place < length asm.items →
+    IsSome (insn_at asm place)
 unfolding first_unplaced insn_at
 placed_insn asm place placed within = insn_from asm asm.items place place (no_least _ placed) within
 
 -- and where none is far, no place is
-pub near_at : (asm : Assembly) (place : ℕ) → first_far asm ≡ None → place < length asm.items → is_far_at asm place ≡ false
+pub near_at : (asm : Assembly) (place : ℕ) → first_far asm ≡ None → place < length asm.items →
+    is_far_at asm place ≡ false
 unfolding first_far
 near_at asm place near within = not_found (is_far_at asm) 0 (length asm.items) place near (omega arith) (omega arith)

@@ -26,5 +26,7 @@ one_more asm words more place next word insn before is_more is_next here means f
     rw (is_more, is_next)
     (record {
       same_length = omega (arith, length_push words word);
-      each = λ k within. below_more (HasWord asm (words ++ word ∷ [])) place below last k (omega (arith, length_push words word));
+      each =
+          λ k within. below_more (HasWord asm (words ++ word ∷ [])) place below last k
+          (omega (arith, length_push words word));
     })

@@ -1,5 +1,6 @@
 -- A program that is being put together.
-use Rattle.std.specs.Prelude.{◌<◌, ◌≤◌, ℕ, List, [], ◌∷◌, ◌++◌, length, slice_index_or, slice_set, All, Option, Some, None, IfSome}
+use Rattle.std.specs.Prelude.{◌<◌, ◌≤◌, ℕ, List, [], ◌∷◌, ◌++◌, length, slice_index_or, slice_set, All, Option, Some}
+use Rattle.std.specs.Prelude.{None, IfSome}
 use Rattle.rv_word.specs.Validity.{Valid}
 use Rattle.rv_asm.specs.declared.builder.TheConstants.{MOST_WORDS}
 use Rattle.rv_asm.specs.declared.item.Item.{Item}

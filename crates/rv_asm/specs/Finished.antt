@@ -1,5 +1,6 @@
 -- What comes of a program that was put together: its words, or the fault that it has.
-use Rattle.std.specs.Prelude.{◌≡◌, ℕ, ◌-◌, ◌^◌, min, Bool, false, not, ◌&&◌, List, length, slice_get, slice_index, EachIndex, fold, find, ℤ, pos}
+use Rattle.std.specs.Prelude.{◌≡◌, ℕ, ◌-◌, ◌^◌, min, Bool, false, not, ◌&&◌, List, length, slice_get, slice_index}
+use Rattle.std.specs.Prelude.{EachIndex, fold, find, ℤ, pos}
 use Rattle.std.specs.Prelude.{negsuc, ◌-ℤ◌, ◌*ℤ◌, int_lt, int_le, Option, Some, None, is_none, if◌then◌else◌, IsSomeAnd}
 use Rattle.std.specs.List.{filter_map, range_with_len}
 use Rattle.std.specs.Option.{option_map, option_map_or, option_and_then}

@@ -18,7 +18,8 @@ use Rattle.rv_alu.specs.Footprint.{IsInPlace, IsPiece, IsSize, footprint}
 use Rattle.rv_word.specs.Decoding.{decoded}
 use Rattle.rv_word.specs.declared.insn.Insn.{Insn}
 use Rattle.rv_flat.specs.declared.change.Change.{Change}
-use Rattle.rv_flat.specs.Change.{Holds, IsChangeOf, four_bytes, register_in, reserved_in, written_from, written_len, written_register}
+use Rattle.rv_flat.specs.Change.{Holds, IsChangeOf, four_bytes, register_in, reserved_in, written_from, written_len}
+use Rattle.rv_flat.specs.Change.{written_register}
 use Rattle.rv_flat.specs.FlatState.{FlatState, room_of, span_of, status_of, view_of}
 use Rattle.rv_flat.specs.Laws.{footprint_of, touched_in}
 use Rattle.rv_flat.specs.Step.{action_of}
@@ -28,7 +29,8 @@ pub record IsWritable (state : FlatState) (access : Access) : Type 0 where
   pub short : written_len access ≤ 4
   pub inside : written_from access - state.base + written_len access ≤ length state.bytes
 
-pub in_place-writable : (state : FlatState) (action : Action) → IsInPlace (span_of state) (room_of state) action → IsWritable state (footprint action)
+pub in_place-writable : (state : FlatState) (action : Action) → IsInPlace (span_of state) (room_of state) action →
+    IsWritable state (footprint action)
 in_place-writable state (actions.Store address len value) h =
     let there : IsPiece (span_of state) address len = h.0 in
     let above : state.base ≤ address = there.from_base in
@@ -48,13 +50,15 @@ in_place-writable state _ h = record { short = omega arith; inside = omega arith
 nothing-writable : (state : FlatState) → IsWritable state Nothing
 nothing-writable state = record { short = omega arith; inside = omega arith }
 
-insn-writable : (state : FlatState) (view : HartView) (insn : Option Insn) → IsWritable state (insn_touched insn view (span_of state) (room_of state))
+insn-writable : (state : FlatState) (view : HartView) (insn : Option Insn) →
+    IsWritable state (insn_touched insn view (span_of state) (room_of state))
 insn-writable state view None = nothing-writable state
 insn-writable state view (Some insn) =
     in_place-writable state (insn_action_of (Some insn) view (span_of state) (room_of state))
     (fits insn view.pc view.regs view.reserved (span_of state) (room_of state)).in_place
 
-status-writable : (state : FlatState) (view : HartView) (status : HartStatus) → IsWritable state (touched_in state view status)
+status-writable : (state : FlatState) (view : HartView) (status : HartStatus) →
+    IsWritable state (touched_in state view status)
 status-writable state view Running = insn-writable state view (insn_at (code_word state.code view.pc))
 status-writable state view (Exited code) = nothing-writable state
 status-writable state view (Trapped cause pc) = nothing-writable state
@@ -64,8 +68,9 @@ pub step-writable : (state : FlatState) (hart : ℕ) → IsWritable state (footp
 step-writable state hart = status-writable state (view_of state hart) (status_of state hart)
 
 -- a change depends on what an access writes alone
-holds-same : (state : FlatState) (hart written : ℕ) (left right : Access) (change : Change) → written_from left ≡ written_from right →
-    written_len left ≡ written_len right → Holds state hart written left change → Holds state hart written right change
+holds-same : (state : FlatState) (hart written : ℕ) (left right : Access) (change : Change) →
+    written_from left ≡ written_from right → written_len left ≡ written_len right →
+    Holds state hart written left change → Holds state hart written right change
 holds-same state hart written left right change from len h =
     record {
       number = h.number;
@@ -75,7 +80,9 @@ holds-same state hart written left right change from len h =
       value = h.value;
       address = h.address ∙ from;
       len = h.len ∙ len;
-      bytes = h.bytes ∙ ap (λ from. four_bytes state from (written_len left)) from ∙ ap (four_bytes state (written_from right)) len;
+      bytes =
+          h.bytes ∙ ap (λ from. four_bytes state from (written_len left)) from
+          ∙ ap (four_bytes state (written_from right)) len;
       holders = h.holders;
       words = h.words;
       output = h.output;
@@ -84,38 +91,46 @@ holds-same state hart written left right change from len h =
 insn-holds : (state : FlatState) (hart written : ℕ) (view : HartView) (change : Change) (insn : Option Insn) →
     Holds state hart written (footprint (insn_action_of insn view (span_of state) (room_of state))) change →
     Holds state hart written (insn_touched insn view (span_of state) (room_of state)) change
-insn-holds state hart written view change None h = holds-same state hart written (footprint (actions.Trap 2)) Nothing change refl refl h
+insn-holds state hart written view change None h =
+    holds-same state hart written (footprint (actions.Trap 2)) Nothing change refl refl h
 insn-holds state hart written view change (Some insn) h = h
 
 word-holds : (state : FlatState) (hart written : ℕ) (view : HartView) (change : Change) (word : Option ℕ) →
     Holds state hart written (footprint (action_at word view (span_of state) (room_of state))) change →
     Holds state hart written (touched word view (span_of state) (room_of state)) change
-word-holds state hart written view change None h = holds-same state hart written (footprint (actions.Trap 1)) Nothing change refl refl h
+word-holds state hart written view change None h =
+    holds-same state hart written (footprint (actions.Trap 1)) Nothing change refl refl h
 word-holds state hart written view change (Some word) h = insn-holds state hart written view change (decoded word) h
 
 -- the change of a hart that runs is that of its next action
-pub running-change : (state : FlatState) (hart : ℕ) (action : Action) (change : Change) → status_of state hart ≡ Running →
-    action ≡ action_of state (view_of state hart) → Holds state hart (written_register action) (footprint action) change → IsChangeOf state hart change
+pub running-change : (state : FlatState) (hart : ℕ) (action : Action) (change : Change) →
+    status_of state hart ≡ Running → action ≡ action_of state (view_of state hart) →
+    Holds state hart (written_register action) (footprint action) change → IsChangeOf state hart change
 running-change state hart action change runs is h =
     let view : HartView = view_of state hart in
-    let By : HartStatus → Type 0 = λ status. Holds state hart (register_in state view status) (touched_in state view status) change in
+    let By : HartStatus → Type 0 =
+    λ status. Holds state hart (register_in state view status) (touched_in state view status) change in
     let Of : Action → Type 0 = λ action. Holds state hart (written_register action) (footprint action) change in
     subst By (sym runs)
-    (word-holds state hart (written_register (action_of state view)) view change (code_word state.code view.pc) (subst Of is h))
+    (word-holds state hart (written_register (action_of state view)) view change (code_word state.code view.pc)
+    (subst Of is h))
 
-stopped-status : (state : FlatState) (hart : ℕ) (view : HartView) (status : HartStatus) (change : Change) → status ≢ Running →
-    Holds state hart 0 Nothing change → Holds state hart (register_in state view status) (touched_in state view status) change
+stopped-status : (state : FlatState) (hart : ℕ) (view : HartView) (status : HartStatus) (change : Change) →
+    status ≢ Running → Holds state hart 0 Nothing change →
+    Holds state hart (register_in state view status) (touched_in state view status) change
 stopped-status state hart view Running change stopped h = absurd (stopped refl)
 stopped-status state hart view (Exited code) change stopped h = h
 stopped-status state hart view (Trapped cause pc) change stopped h = h
 
 -- the change of a hart that has stopped holds no register and no bytes
-pub stopped-change : (state : FlatState) (hart : ℕ) (change : Change) → status_of state hart ≢ Running → Holds state hart 0 Nothing change →
-    IsChangeOf state hart change
-stopped-change state hart change stopped h = stopped-status state hart (view_of state hart) (status_of state hart) change stopped h
+pub stopped-change : (state : FlatState) (hart : ℕ) (change : Change) → status_of state hart ≢ Running →
+    Holds state hart 0 Nothing change → IsChangeOf state hart change
+stopped-change state hart change stopped h =
+    stopped-status state hart (view_of state hart) (status_of state hart) change stopped h
 
 -- a reservation that a change holds is the hart's
-pub reserved-held : (change : Change) (hart : ℕ) (reserved : Option ℕ) → has_hart change.holders hart ≡ is_some reserved →
-    slice_index change.words hart ≡ unwrap_or reserved 0 → reserved_in change hart ≡ reserved
+pub reserved-held : (change : Change) (hart : ℕ) (reserved : Option ℕ) →
+    has_hart change.holders hart ≡ is_some reserved → slice_index change.words hart ≡ unwrap_or reserved 0 →
+    reserved_in change hart ≡ reserved
 reserved-held change hart None holder word = rw holder refl
 reserved-held change hart (Some there) holder word = rw holder (ap Some word)

@@ -1,5 +1,6 @@
 -- what a step overwrites, so that it can be undone
-use Rattle.std.specs.Prelude.{◌≡◌, ◌<◌, ℕ, ◌-◌, ◌++◌, List, length, Option, None, Some, if◌then◌else◌, is_some, replicate, slice_index}
+use Rattle.std.specs.Prelude.{◌≡◌, ◌<◌, ℕ, ◌-◌, ◌++◌, List, length, Option, None, Some, if◌then◌else◌, is_some}
+use Rattle.std.specs.Prelude.{replicate, slice_index}
 use Rattle.std.specs.Option.{unwrap_or}
 use Rattle.el_base.specs.Harts.{has_hart}
 use Rattle.rv_alu.specs.declared.action.Action.{Action}

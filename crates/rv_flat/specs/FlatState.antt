@@ -44,7 +44,8 @@ status_of state hart = (view_of state hart).status
 -- the registers of a hart before its first step: its number, the number of harts, and its stack pointer
 abbrev pub first_regs : Program → ℕ → List ℕ
 first_regs program hart =
-    set (set (set (replicate 32 0) a0 hart) a1 program.harts) sp (program.base + length program.bytes - stack_size * hart)
+    set (set (set (replicate 32 0) a0 hart) a1 program.harts) sp
+    (program.base + length program.bytes - stack_size * hart)
 
 -- a hart before its first step
 unfoldable pub first_view : Program → ℕ → HartView

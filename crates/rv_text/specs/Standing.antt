@@ -7,7 +7,8 @@ use Rattle.rv_word.specs.declared.insn.Test.{Test}
 use Rattle.rv_word.specs.declared.insn.Test.TheVariants as tests
 use Rattle.rv_word.specs.declared.reg.Reg.{Reg}
 use Rattle.rv_text.specs.declared.pseudos.Pseudo.{Pseudo}
-use Rattle.rv_text.specs.declared.pseudos.Pseudo.TheVariants.{Nop, Li, Mv, Not, ZextB, Seqz, Neg, Snez, Sltz, Sgtz, BranchZero, J, Call, Ret, Jr, CallAt, Plain}
+use Rattle.rv_text.specs.declared.pseudos.Pseudo.TheVariants.{Nop, Li, Mv, Not, ZextB, Seqz, Neg, Snez, Sltz, Sgtz}
+use Rattle.rv_text.specs.declared.pseudos.Pseudo.TheVariants.{BranchZero, J, Call, Ret, Jr, CallAt, Plain}
 use Rattle.rv_text.specs.declared.pseudos.ZeroTest.{ZeroTest}
 use Rattle.rv_text.specs.declared.pseudos.ZeroTest.TheVariants as zeros
 

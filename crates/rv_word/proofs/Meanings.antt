@@ -1,13 +1,16 @@
 use Rattle.std.proofs.Common.{◌≡◌, ℕ, Some, arith, IsTrue}
 use Rattle.std.proofs.lemmas.Grind.{common_steps}
 use Rattle.rv_word.specs.declared.insn.Alu.{Alu}
-use Rattle.rv_word.specs.declared.insn.Alu.TheVariants.{Add, Sub, Sll, Slt, Sltu, Xor, Srl, Sra, Or, And, Mul, Mulh, Mulhsu, Mulhu, Div, Divu, Rem, Remu}
+use Rattle.rv_word.specs.declared.insn.Alu.TheVariants.{Add, Sub, Sll, Slt, Sltu, Xor, Srl, Sra, Or, And, Mul, Mulh}
+use Rattle.rv_word.specs.declared.insn.Alu.TheVariants.{Mulhsu, Mulhu, Div, Divu, Rem, Remu}
 use Rattle.rv_word.specs.declared.insn.Insn.{Insn}
-use Rattle.rv_word.specs.declared.insn.Insn.TheVariants.{Lui, Auipc, Jal, Jalr, Branch, Load, Store, OpImm, Op, Fence, Ecall, Ebreak, Lr, Sc, Amo}
+use Rattle.rv_word.specs.declared.insn.Insn.TheVariants.{Lui, Auipc, Jal, Jalr, Branch, Load, Store, OpImm, Op, Fence}
+use Rattle.rv_word.specs.declared.insn.Insn.TheVariants.{Ecall, Ebreak, Lr, Sc, Amo}
 use Rattle.rv_word.specs.Arithmetic.{is_op_row, is_op_imm_row, op_at, op_imm_at}
 use Rattle.rv_word.specs.Meaning.{Means}
 use Rattle.rv_word.specs.Decoding.{decoded}
-use Rattle.rv_word.proofs.Codes.{test_at-code, load_width_at-code, store_width_at-code, amo_at-code, amo_code-ne-lr, amo_code-ne-sc}
+use Rattle.rv_word.proofs.Codes.{test_at-code, load_width_at-code, store_width_at-code, amo_at-code, amo_code-ne-lr}
+use Rattle.rv_word.proofs.Codes.{amo_code-ne-sc}
 
 op_at-row : (word : ℕ) (op : Alu) → IsTrue (is_op_row word op) → op_at word ≡ Some op
 unfolding op_at

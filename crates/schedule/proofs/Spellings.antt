@@ -21,5 +21,6 @@ pub name_of_spelled : (front name : List ℕ) (digit space : ℕ) (kind : Kind) 
 name_of_spelled front name digit space kind hart parted same =
     let split : (kind_name kind ++ 0x20 ∷ []) ++ (0x30 + hart) ∷ [] ≡ spelled kind hart =
     append_assoc (kind_name kind) (0x20 ∷ []) ((0x30 + hart) ∷ []) in
-    let fronts : front ≡ kind_name kind ++ 0x20 ∷ [] = fronts_agree front (kind_name kind ++ 0x20 ∷ []) digit (0x30 + hart) (same ∙ sym split) in
+    let fronts : front ≡ kind_name kind ++ 0x20 ∷ [] =
+    fronts_agree front (kind_name kind ++ 0x20 ∷ []) digit (0x30 + hart) (same ∙ sym split) in
     fronts_agree name (kind_name kind) space 0x20 (sym parted ∙ fronts)

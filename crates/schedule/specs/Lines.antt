@@ -1,5 +1,6 @@
 -- The lines of a text that lists events.
-use Rattle.std.specs.Prelude.{ℕ, ◌≡◌, ◌≢◌, ◌+◌, ◌-◌, ◌<◌, ◌==◌, List, [], ◌∷◌, ◌++◌, codes, length, position, slice_get, take, Option, Some, None}
+use Rattle.std.specs.Prelude.{ℕ, ◌≡◌, ◌≢◌, ◌+◌, ◌-◌, ◌<◌, ◌==◌, List, [], ◌∷◌, ◌++◌, codes, length, position, slice_get}
+use Rattle.std.specs.Prelude.{take, Option, Some, None}
 use Rattle.std.specs.Prelude.{◌≤◌}
 use Rattle.std.specs.List.{suffix_len}
 use Rattle.std.specs.Char.{is_ascii_whitespace}

@@ -19,13 +19,16 @@ call_ends : (regs : List ℕ) (span : Span) (room : ℕ) → ends_section (call_
 call_ends regs span room =
     ends_if (get regs a7 == exit_number) _ _ refl (ends_if (get regs a7 == write_number) _ _
     (ends_if (not ((get regs a0 == 1) || (get regs a0 == 2))) _ _ refl (ends_if (get regs a2 == 0) _ _ refl
-    (ends_if (not (holds span (get regs a1 - get regs a1 % LINE_BYTES) LINE_BYTES)) _ _ refl (ends_if (room == 0) _ _ refl refl)))) refl)
+    (ends_if (not (holds span (get regs a1 - get regs a1 % LINE_BYTES) LINE_BYTES)) _ _ refl
+    (ends_if (room == 0) _ _ refl refl)))) refl)
   where
-    ends_if : (b : Bool) (x y : Action) → ends_section x ≡ true → ends_section y ≡ true → ends_section (if b then x else y) ≡ true
+    ends_if : (b : Bool) (x y : Action) → ends_section x ≡ true → ends_section y ≡ true →
+        ends_section (if b then x else y) ≡ true
     ends_if true x y first second = first
     ends_if false x y first second = second
 
-same_insn : (insn : Insn) (view : HartView) (span : Span) (room : ℕ) → ends_section (action_of insn view.pc view.regs view.reserved span 0) ≡ false →
+same_insn : (insn : Insn) (view : HartView) (span : Span) (room : ℕ) →
+    ends_section (action_of insn view.pc view.regs view.reserved span 0) ≡ false →
     action_of insn view.pc view.regs view.reserved span room ≡ action_of insn view.pc view.regs view.reserved span 0
 unfolding action_of
 same_insn insns.Ecall view span room goes = absurd (apart (call_ends view.regs span 0) goes)
@@ -34,11 +37,13 @@ same_insn insns.Ecall view span room goes = absurd (apart (call_ends view.regs s
     apart ends goes_on = cc
 same_insn _ view span room goes = refl
 
-decoded_same : (insn : Option Insn) (view : HartView) (span : Span) (room : ℕ) → ends_section (insn_action_of insn view span 0) ≡ false →
+decoded_same : (insn : Option Insn) (view : HartView) (span : Span) (room : ℕ) →
+    ends_section (insn_action_of insn view span 0) ≡ false →
     insn_action_of insn view span room ≡ insn_action_of insn view span 0
 decoded_same None view span room goes = refl
 decoded_same (Some insn) view span room goes = same_insn insn view span room goes
 
-pub any_room : (word : ℕ) (view : HartView) (span : Span) (room : ℕ) → ends_section (action_at (Some word) view span 0) ≡ false →
+pub any_room : (word : ℕ) (view : HartView) (span : Span) (room : ℕ) →
+    ends_section (action_at (Some word) view span 0) ≡ false →
     action_at (Some word) view span room ≡ action_at (Some word) view span 0
 any_room word view span room goes = decoded_same (decoded word) view span room goes

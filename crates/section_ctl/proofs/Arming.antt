@@ -49,11 +49,14 @@ quiet_loads (actions.JumpAndLink rd target) byte quiet = refl
 quiet_loads (actions.Go target) byte quiet = refl
 quiet_loads _ byte quiet = absurd (cc)
 
-pub quiet_continues : (action : Action) (view after : HartView) → is_quiet_action action ≡ true → view.status ≡ Running →
-    ((byte : ℕ → ℕ) → None ≡ number_of action byte → after ≡ view_after (perform action view byte) view) → after.status ≡ Running
+pub quiet_continues : (action : Action) (view after : HartView) → is_quiet_action action ≡ true →
+    view.status ≡ Running →
+    ((byte : ℕ → ℕ) → None ≡ number_of action byte → after ≡ view_after (perform action view byte) view) →
+    after.status ≡ Running
 quiet_continues action view after quiet running told =
     let byte : ℕ → ℕ = λ at. 0 in
-    ap (λ v. v.status) (told byte (quiet_loads action byte quiet)) ∙ goes_on_running action view byte (quiet_goes action quiet) running
+    ap (λ v. v.status) (told byte (quiet_loads action byte quiet))
+    ∙ goes_on_running action view byte (quiet_goes action quiet) running
 
 pub arms_run : (before after : SectionState) (word old : ℕ) (rd : Reg) → before.marks.present.status ≡ Running →
     after ≡ armed_state before word old rd.number → ArmsRun before after word old rd
@@ -63,13 +66,14 @@ arms_run before after word old rd running is committed h at acts found =
     let present = ap (λ state. state.marks.present) is ∙ ap (λ view. reserved_view view rd.number word old) at in
     subst (KeepsArmed committed h armed old) (sym present) keeps
 
-pub continues_run : (before after : SectionState) (reserved : Reserved) (action : Action) → HasContinued before after reserved action →
-    ContinuesRun before after reserved action
+pub continues_run : (before after : SectionState) (reserved : Reserved) (action : Action) →
+    HasContinued before after reserved action → ContinuesRun before after reserved action
 continues_run before after reserved action ran committed h cache kept is quiet =
     let view = before.marks.present in
     let armed : Armed = record reserved.armed { count = reserved.armed.count + 1 } in
     let keeps = armed_goes committed h cache reserved.armed reserved.old view (λ at. 0) kept.run kept.keeps quiet in
-    let present = ap (λ marks. marks.present) (ran.marks (λ at. 0)) ∙ ap (λ a. view_after (perform a view (λ at. 0)) view) is in
+    let present =
+    ap (λ marks. marks.present) (ran.marks (λ at. 0)) ∙ ap (λ a. view_after (perform a view (λ at. 0)) view) is in
     subst (KeepsArmed committed h armed reserved.old) (sym present) keeps
 
 pub elides_run : (before after : SectionState) (reserved : Reserved) (new : ℕ) (rd : Reg) → before.hold.entries ≡ [] →
@@ -77,7 +81,8 @@ pub elides_run : (before after : SectionState) (reserved : Reserved) (new : ℕ)
 elides_run before after reserved new rd empty is committed h cache found address source kept next acts =
     let section = elided reserved.armed reserved.old new in
     let it = armed_elides committed h cache reserved.armed reserved.old before.marks.present
-    (record { word = reserved.armed.word; old = found; new = new }) rd address source kept.run kept.keeps next refl acts in
+    (record { word = reserved.armed.word; old = found; new = new }) rd address source kept.run kept.keeps
+    next refl acts in
     let present = ap (λ state. state.marks.present) is in
     record {
       same = it.found;

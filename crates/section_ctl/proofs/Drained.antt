@@ -1,5 +1,6 @@
 -- one held line more is drained into a cache
-use Rattle.std.proofs.Common.{◌≡◌, ◌≢◌, ℕ, ◌<◌, Bool, true, false, List, [], length, slice_index, Option, None, Some, is_some, option_map}
+use Rattle.std.proofs.Common.{◌≡◌, ◌≢◌, ℕ, ◌<◌, Bool, true, false, List, [], length, slice_index, Option, None, Some}
+use Rattle.std.proofs.Common.{is_some, option_map}
 use Rattle.std.proofs.Common.{option_and_then, inl, inr, refl, ap, sym, subst, ◌∙◌, arith}
 use Rattle.std.specs.Option.{unwrap_or}
 use Rattle.std.proofs.lemmas.Bool.{cases_eq}
@@ -15,7 +16,8 @@ use Rattle.el_base.specs.declared.outcomes.Need.TheVariants.{Write}
 use Rattle.line_pool.specs.Others.{LeavesOthers}
 use Rattle.line_pool.specs.Pooled.{Pooled}
 use Rattle.moesi.specs.declared.letter.Letter.TheVariants.{M}
-use Rattle.section_ctl.proofs.Laws.Lent.{beside_cache, beside_hold, beside_same, beside_then, both_by_cache, both_by_hold, cache_stays, hold_stays}
+use Rattle.section_ctl.proofs.Laws.Lent.{beside_cache, beside_hold, beside_same, beside_then, both_by_cache}
+use Rattle.section_ctl.proofs.Laws.Lent.{both_by_hold, cache_stays, hold_stays}
 use Rattle.section_ctl.specs.Calls.{HasCommitted, committed_copy}
 use Rattle.section_ctl.specs.Drains.{AreDrained, AreDrainedIn, IsDrainedIn, IsDrainedInto}
 use Rattle.section_ctl.specs.Lent.{LeavesBeside, LendsBoth}
@@ -26,7 +28,8 @@ use Rattle.write_hold.specs.Held.{Held, holds as holds_line, seen_at, stored_at}
 use Rattle.write_hold.specs.Slotted as holds
 
 -- a line with the write bit is there
-pub resident_with_bit : (cache : List (List Way)) (line : ℕ) → write_bit cache line ≡ true → is_resident cache line ≡ true
+pub resident_with_bit : (cache : List (List Way)) (line : ℕ) → write_bit cache line ≡ true →
+    is_resident cache line ≡ true
 resident_with_bit cache line bit = by (way_of cache line) bit
   where
     by : (way : Option Way) → bit_in Write way ≡ true → is_some way ≡ true
@@ -54,15 +57,17 @@ same_bytes_of_copy None other left right there same = absurd cc
 same_bytes_of_copy (Some way) None left right there same = absurd cc
 same_bytes_of_copy (Some way) (Some w) left right there same = ap bytes_or_none same
 
-pub written_bytes : (old new : Cached) (line : ℕ) (bytes : List ℕ) → is_resident old.residency line ≡ true → IsWritten old new line bytes →
-    bytes_of new line ≡ bytes
+pub written_bytes : (old new : Cached) (line : ℕ) (bytes : List ℕ) → is_resident old.residency line ≡ true →
+    IsWritten old new line bytes → bytes_of new line ≡ bytes
 written_bytes old new line bytes there written =
-    bytes_of_copy (way_of old.residency line) (way_of new.residency line) (bytes_of new line) bytes (bytes_of old line) there written.here
+    bytes_of_copy (way_of old.residency line) (way_of new.residency line) (bytes_of new line) bytes (bytes_of old line)
+    there written.here
 
-pub other_bytes : (old new : Cached) (line : ℕ) → is_resident old.residency line ≡ true → copy_in new line ≡ copy_in old line →
-    bytes_of new line ≡ bytes_of old line
+pub other_bytes : (old new : Cached) (line : ℕ) → is_resident old.residency line ≡ true →
+    copy_in new line ≡ copy_in old line → bytes_of new line ≡ bytes_of old line
 other_bytes old new line there same =
-    same_bytes_of_copy (way_of old.residency line) (way_of new.residency line) (bytes_of new line) (bytes_of old line) there same
+    same_bytes_of_copy (way_of old.residency line) (way_of new.residency line) (bytes_of new line)
+    (bytes_of old line) there same
 
 pub none_drained : (hold : Held) (cache : Cached) → AreDrained hold hold cache cache
 none_drained hold cache = record {
@@ -75,11 +80,14 @@ none_drained hold cache = record {
   others = λ line none. refl;
 }
 
--- what is held of a line is put over its bytes in a pool that lends both: the hold is drained into a copy of the bytes, which is written
+-- what is held of a line is put over its bytes in a pool that lends both: the hold is drained into a copy
+-- of the bytes, which is written
 module _ (old between new : Pooled) (cache : caches.Slotted) (hold after : holds.Slotted) (line : ℕ) (bytes : List ℕ)
     (owes : LendsBoth old cache hold) (there : is_resident cache.residency line ≡ true)
-    (drained : IsDrained (holds.lent old hold) (holds.lent between after) line (bytes_of (caches.lent old cache) line) bytes)
-    (lends : holds.IsLent between after) (same : after.owner ≡ hold.owner) (leaves : LeavesOthers hold.owner old between)
+    (drained : IsDrained (holds.lent old hold) (holds.lent between after) line
+    (bytes_of (caches.lent old cache) line) bytes)
+    (lends : holds.IsLent between after) (same : after.owner ≡ hold.owner)
+    (leaves : LeavesOthers hold.owner old between)
     (written : IsWrittenIn between new cache line bytes) (whole : length bytes ≡ LINE_BYTES) where
   owes_then : LendsBoth between cache after
   owes_then = both_by_hold old between cache hold owes leaves after lends same
@@ -87,14 +95,19 @@ module _ (old between new : Pooled) (cache : caches.Slotted) (hold after : holds
   filled : bytes_of (caches.lent new cache) line ≡ bytes
   filled = written_bytes (caches.lent between cache) (caches.lent new cache) line bytes there written.written
 
-  line_drained : IsDrainedInto (holds.lent old hold) (holds.lent new after) (caches.lent old cache) (caches.lent new cache) line
+  line_drained : IsDrainedInto (holds.lent old hold) (holds.lent new after) (caches.lent old cache)
+      (caches.lent new cache) line
   line_drained = record {
-    drained = subst (λ now. IsDrained (holds.lent old hold) now line (bytes_of (caches.lent old cache) line) (bytes_of (caches.lent new cache) line))
+    drained =
+        subst (λ now. IsDrained (holds.lent old hold) now line (bytes_of (caches.lent old cache) line)
+        (bytes_of (caches.lent new cache) line))
         (sym (hold_stays between new cache after owes_then written.others))
-        (subst (IsDrained (holds.lent old hold) (holds.lent between after) line (bytes_of (caches.lent old cache) line)) (sym filled) drained);
+        (subst (IsDrained (holds.lent old hold) (holds.lent between after) line (bytes_of (caches.lent old cache) line))
+        (sym filled) drained);
     whole = ap length filled ∙ whole;
     written = subst (IsWritten (caches.lent old cache) (caches.lent new cache) line) (sym filled)
-        (subst (λ was. IsWritten was (caches.lent new cache) line bytes) (cache_stays old between cache hold owes leaves) written.written);
+        (subst (λ was. IsWritten was (caches.lent new cache) line bytes)
+        (cache_stays old between cache hold owes leaves) written.written);
   }
 
   pub drained_in : IsDrainedIn cache old new hold after line
@@ -108,8 +121,10 @@ module _ (old between new : Pooled) (cache : caches.Slotted) (hold after : holds
   }
 
 -- one line more
-module _ (hold now next : Held) (cache filled new : Cached) (line : ℕ) (marked : HoldsMarked cache.residency hold.entries)
-    (far : AreDrained hold now cache filled) (held : holds_line now.entries line ≡ true) (more : IsDrainedInto now next filled new line) where
+module _ (hold now next : Held) (cache filled new : Cached) (line : ℕ)
+    (marked : HoldsMarked cache.residency hold.entries)
+    (far : AreDrained hold now cache filled) (held : holds_line now.entries line ≡ true)
+    (more : IsDrainedInto now next filled new line) where
   abbrev before : List ℕ
   before = bytes_of filled line
 
@@ -123,7 +138,9 @@ module _ (hold now next : Held) (cache filled new : Cached) (line : ℕ) (marked
   written = more.written
 
   there : (l : ℕ) → holds_line hold.entries l ≡ true → is_resident filled.residency l ≡ true
-  there l held_first = subst (λ residency. is_resident residency l ≡ true) (sym far.residency) (resident_with_bit cache.residency l (marked l held_first))
+  there l held_first =
+      subst (λ residency. is_resident residency l ≡ true) (sym far.residency)
+      (resident_with_bit cache.residency l (marked l held_first))
 
   elsewhere : (l : ℕ) → l ≢ line → holds_line hold.entries l ≡ true → bytes_of new l ≡ bytes_of filled l
   elsewhere l other held_first = other_bytes filled new l (there l held_first) (written.others l other)
@@ -131,16 +148,20 @@ module _ (hold now next : Held) (cache filled new : Cached) (line : ℕ) (marked
   shown_here : (place : ℕ) → place < LINE_BYTES → seen_at next.entries line (bytes_of new line) place ≡ seen_at
       hold.entries line (bytes_of cache line) place
   shown_here place below =
-      seen_after_drain now next line before after drained place below ∙ far.shows line place (far.within line held) below
+      seen_after_drain now next line before after drained place below
+      ∙ far.shows line place (far.within line held) below
 
   shown_elsewhere : (l place : ℕ) → l ≢ line → holds_line hold.entries l ≡ true → place < LINE_BYTES →
       seen_at next.entries l (bytes_of new l) place ≡ seen_at hold.entries l (bytes_of cache l) place
   shown_elsewhere l place other held_first below =
-      ap (λ entry. unwrap_or (option_and_then (λ e. stored_at e place) entry) (slice_index (bytes_of new l) place)) (drained.others l other)
-      ∙ ap (λ bytes. seen_at now.entries l bytes place) (elsewhere l other held_first) ∙ far.shows l place held_first below
+      ap (λ entry. unwrap_or (option_and_then (λ e. stored_at e place) entry) (slice_index (bytes_of new l) place))
+      (drained.others l other)
+      ∙ ap (λ bytes. seen_at now.entries l bytes place) (elsewhere l other held_first)
+      ∙ far.shows l place held_first below
 
   held_apart : (l : ℕ) → holds_line hold.entries l ≡ false → l ≢ line
-  held_apart l none same = by (holds_line hold.entries line) (far.within line held) (ap (holds_line hold.entries) (sym same) ∙ none)
+  held_apart l none same =
+      by (holds_line hold.entries line) (far.within line held) (ap (holds_line hold.entries) (sym same) ∙ none)
     where
       by : (b : Bool) → b ≡ true → b ≡ false → ⊥
       by true it not_it = cc
@@ -157,7 +178,8 @@ module _ (hold now next : Held) (cache filled new : Cached) (line : ℕ) (marked
     ];
     shows = λ l place held_first below. elim (cases_eq l line) [
       | inl same ↦
-          subst (λ k. seen_at next.entries k (bytes_of new k) place ≡ seen_at hold.entries k (bytes_of cache k) place) (sym same) (shown_here place below)
+          subst (λ k. seen_at next.entries k (bytes_of new k) place ≡ seen_at hold.entries k (bytes_of cache k) place)
+          (sym same) (shown_here place below)
       | inr other ↦ shown_elsewhere l place other held_first below
     ];
     size = λ l held_first none. elim (cases_eq l line) [
@@ -187,7 +209,9 @@ module _ (cache : caches.Slotted) (pool now next : Pooled) (hold held after : ho
 
   pub one_more_drained_in : IsDrainedIn cache now next held after line → AreDrainedIn cache pool next hold after
   one_more_drained_in more = record {
-    drained = one_more_drained (holds.lent pool hold) (holds.lent now held) (holds.lent next after) (caches.lent pool cache) (caches.lent now cache)
+    drained =
+        one_more_drained (holds.lent pool hold) (holds.lent now held) (holds.lent next after) (caches.lent pool cache)
+        (caches.lent now cache)
         (caches.lent next cache) line marked far.drained is more.drained;
     lent = more.lent;
     owner = more.owner ∙ far.owner;
@@ -197,7 +221,12 @@ module _ (cache : caches.Slotted) (pool now next : Pooled) (hold held after : ho
 
   pub fewer_drained_in : IsDrainedIn cache now next held after line → length after.entries < length held.entries
   fewer_drained_in more =
-      omega (arith, more.drained.drained.count, length-map after.entries (holds.lent_entry next), length-map held.entries (holds.lent_entry now))
+      omega (
+        arith,
+        more.drained.drained.count,
+        length-map after.entries (holds.lent_entry next),
+        length-map held.entries (holds.lent_entry now),
+      )
 
 -- a copy that was modified
 modified_bytes : (way other : Option Way) (left right : List ℕ) → is_some way ≡ true →
@@ -211,10 +240,12 @@ modified_copy : (way other : Option Way) (left right : List ℕ) → is_some way
     option_map (copy_of left) other ≡ Some (record { letter = M; bytes = left })
 modified_copy None other left right there same = absurd cc
 modified_copy (Some way) other left right there same =
-    same ∙ ap (λ bytes. Some (record { letter = M; bytes = bytes })) (sym (modified_bytes (Some way) other left right there same))
+    same ∙ ap (λ bytes. Some (record { letter = M; bytes = bytes }))
+    (sym (modified_bytes (Some way) other left right there same))
 
 -- all that was held is drained, and the cache commits
-module _ (hold now : Held) (cache filled new : Cached) (marked : HoldsMarked cache.residency hold.entries) (far : AreDrained hold now cache filled)
+module _ (hold now : Held) (cache filled new : Cached) (marked : HoldsMarked cache.residency hold.entries)
+    (far : AreDrained hold now cache filled)
     (nothing : now.entries ≡ []) (done : IsCommitted filled new) where
   bit : (line : ℕ) → write_bit filled.residency line ≡ write_bit cache.residency line
   bit line = ap (λ residency. write_bit residency line) far.residency
@@ -222,17 +253,21 @@ module _ (hold now : Held) (cache filled new : Cached) (marked : HoldsMarked cac
   filled_there : (line : ℕ) → holds_line hold.entries line ≡ true → is_resident filled.residency line ≡ true
   filled_there line is = resident_with_bit filled.residency line (bit line ∙ marked line is)
 
-  copy : (line : ℕ) → holds_line hold.entries line ≡ true → copy_in new line ≡ option_map (copy_with_letter M) (copy_in filled line)
+  copy : (line : ℕ) → holds_line hold.entries line ≡ true →
+      copy_in new line ≡ option_map (copy_with_letter M) (copy_in filled line)
   copy line is = done.written line (bit line ∙ marked line is)
 
   same : (line : ℕ) → holds_line hold.entries line ≡ true → bytes_of new line ≡ bytes_of filled line
   same line is =
-      modified_bytes (way_of filled.residency line) (way_of new.residency line) (bytes_of new line) (bytes_of filled line) (filled_there line is)
+      modified_bytes (way_of filled.residency line) (way_of new.residency line) (bytes_of new line)
+      (bytes_of filled line) (filled_there line is)
       (copy line is)
 
-  other : (line : ℕ) → holds_line hold.entries line ≡ false → (written : Bool) → write_bit cache.residency line ≡ written →
+  other : (line : ℕ) → holds_line hold.entries line ≡ false → (written : Bool) →
+      write_bit cache.residency line ≡ written →
       copy_in new line ≡ option_map (committed_copy written) (copy_in cache line)
-  other line none true is = done.written line (bit line ∙ is) ∙ ap (option_map (copy_with_letter M)) (far.others line none)
+  other line none true is =
+      done.written line (bit line ∙ is) ∙ ap (option_map (copy_with_letter M)) (far.others line none)
   other line none false is = done.others line (bit line ∙ is) ∙ far.others line none ∙ kept (copy_in cache line)
     where
       kept : (there : Option Copy) → there ≡ option_map (committed_copy false) there
@@ -243,10 +278,13 @@ module _ (hold now : Held) (cache filled new : Cached) (marked : HoldsMarked cac
   commits_drained = record {
     ways = done.ways ∙ far.ways;
     residency = done.residency ∙ ap committed far.residency;
-    held = λ line is. modified_copy (way_of filled.residency line) (way_of new.residency line) (bytes_of new line) (bytes_of filled line)
+    held =
+        λ line is. modified_copy (way_of filled.residency line) (way_of new.residency line) (bytes_of new line)
+        (bytes_of filled line)
         (filled_there line is) (copy line is);
     size = λ line is. ap length (same line is) ∙ far.size line is (ap (λ entries. holds_line entries line) nothing);
     bytes = λ line place is below. ap (λ bytes. slice_index bytes place) (same line is)
-        ∙ sym (ap (λ entries. seen_at entries line (bytes_of filled line) place) nothing) ∙ far.shows line place is below;
+        ∙ sym (ap (λ entries. seen_at entries line (bytes_of filled line) place) nothing)
+        ∙ far.shows line place is below;
     others = λ line none. other line none (write_bit cache.residency line) refl;
   }

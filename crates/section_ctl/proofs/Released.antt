@@ -16,7 +16,8 @@ use Rattle.section_view.specs.Release.{BySwap, ByStore, IsReleaseAction, release
 use Rattle.write_hold.specs.Held.{Entry}
 
 -- a release finds the new value in the lock word, where it loads it
-pub finds_new : (action : Action) (word old new : ℕ) (hold : List Entry) (under : ℕ → ℕ) → new < 4294967296 → IsReleaseAction word old action →
+pub finds_new : (action : Action) (word old new : ℕ) (hold : List Entry) (under : ℕ → ℕ) → new < 4294967296 →
+    IsReleaseAction word old action →
     option_map (λ load. new) (loads action) ≡ number_of action (section_byte hold word new under)
 finds_new action word old new hold under small (ByStore is) =
     subst (λ a. option_map (λ load. new) (loads a) ≡ number_of a (section_byte hold word new under)) (sym is) refl
@@ -25,8 +26,10 @@ finds_new action word old new hold under small (BySwap rd is) =
     (ap Some (sym (loaded_stored (held_over hold under) word new small)))
 
 -- the view after a release, by its instruction
-pub released_by : (pool : Pooled) (before after : SectionState) (section : Section) (insn : Option Insn) → IsReleaseInsn insn → section.new < 4294967296 →
-    HasReleased pool before after section (release_of_insn insn section.word section.old) → HasReleasedBy before after section insn
+pub released_by : (pool : Pooled) (before after : SectionState) (section : Section) (insn : Option Insn) →
+    IsReleaseInsn insn → section.new < 4294967296 →
+    HasReleased pool before after section (release_of_insn insn section.word section.old) →
+    HasReleasedBy before after section insn
 released_by pool before after section insn is small released = record {
   marks = released.marks (λ at. 0) ∙ ap unmarked (by insn is);
   hold = released.hold;

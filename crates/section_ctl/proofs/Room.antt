@@ -54,14 +54,17 @@ removed-there x y ys other =
 removed-length : (x : ℕ) (ys : List ℕ) → 1 ≤ count_in ys x → length (removed x ys) + 1 ≡ length ys
 removed-length x [] some = absurd (omega arith)
 removed-length x (y ∷ ys) some = elim (cases_eq y x) [
-  | inl same ↦ let e : length (removed x (y ∷ ys)) ≡ length ys = ap length (removed-here x y ys same) in grind (arith, common_steps)
+  | inl same ↦ let e : length (removed x (y ∷ ys)) ≡ length ys = ap length (removed-here x y ys same) in
+      grind (arith, common_steps)
   | inr other ↦
       let e : length (removed x (y ∷ ys)) ≡ length (y ∷ removed x ys) = ap length (removed-there x y ys other) in
-      let rest : length (removed x ys) + 1 ≡ length ys = removed-length x ys (omega (arith, count-there y ys x other)) in
+      let rest : length (removed x ys) + 1 ≡ length ys =
+      removed-length x ys (omega (arith, count-there y ys x other)) in
       grind (arith, common_steps)
 ]
 
-removed-count : (x : ℕ) (ys : List ℕ) (n : ℕ) → 1 ≤ count_in ys x → count_in (removed x ys) n + one_if x n ≡ count_in ys n
+removed-count : (x : ℕ) (ys : List ℕ) (n : ℕ) → 1 ≤ count_in ys x →
+    count_in (removed x ys) n + one_if x n ≡ count_in ys n
 removed-count x [] n some = absurd (omega arith)
 removed-count x (y ∷ ys) n some = elim (cases_eq y x) [
   | inl same ↦
@@ -69,8 +72,10 @@ removed-count x (y ∷ ys) n some = elim (cases_eq y x) [
       let t : one_if y n ≡ one_if x n = ap (λ k. one_if k n) same in
       omega (arith, e, t, count-cons y ys n)
   | inr other ↦
-      let e : count_in (removed x (y ∷ ys)) n ≡ count_in (y ∷ removed x ys) n = ap (λ l. count_in l n) (removed-there x y ys other) in
-      let rest : count_in (removed x ys) n + one_if x n ≡ count_in ys n = removed-count x ys n (omega (arith, count-there y ys x other)) in
+      let e : count_in (removed x (y ∷ ys)) n ≡ count_in (y ∷ removed x ys) n =
+      ap (λ l. count_in l n) (removed-there x y ys other) in
+      let rest : count_in (removed x ys) n + one_if x n ≡ count_in ys n =
+      removed-count x ys n (omega (arith, count-there y ys x other)) in
       omega (arith, e, rest, count-cons y ys n, count-cons y (removed x ys) n)
 ]
 
@@ -102,7 +107,8 @@ length-written_lines [] = refl
 length-written_lines (set ∷ sets) = grind (arith, common_steps, length-written_in set, length-written_lines sets)
 
 -- a line with the write bit is one of them
-count-written_in : (ways : List Way) (line : ℕ) → bit_in Write (way_in ways line) ≡ true → 1 ≤ count_in (written_in ways) line
+count-written_in : (ways : List Way) (line : ℕ) → bit_in Write (way_in ways line) ≡ true →
+    1 ≤ count_in (written_in ways) line
 count-written_in [] line bit = absurd cc
 count-written_in (way ∷ ways) line bit = grind (arith, nat_tests, common_steps, count-written_in ways line)
 
@@ -112,10 +118,12 @@ count-written_lines [] n line = grind (arith, common_steps)
 count-written_lines (set ∷ sets) zero line = grind (arith, common_steps)
 count-written_lines (set ∷ sets) (suc n) line = grind (arith, common_steps, count-written_lines sets n line)
 
-pub count-write_bit : (cache : List (List Way)) (line : ℕ) → write_bit cache line ≡ true → 1 ≤ count_in (written_lines cache) line
+pub count-write_bit : (cache : List (List Way)) (line : ℕ) → write_bit cache line ≡ true →
+    1 ≤ count_in (written_lines cache) line
 count-write_bit cache line bit =
     let here : 1 ≤ count_in (written_in (set_of cache line)) line = count-written_in (set_of cache line) line bit in
-    let all : count_in (written_in (set_of cache line)) line ≤ count_in (written_lines cache) line = count-written_lines cache (set_number cache line) line in
+    let all : count_in (written_in (set_of cache line)) line ≤ count_in (written_lines cache) line =
+    count-written_lines cache (set_number cache line) line in
     omega arith
 
 -- the lines that are held
@@ -125,11 +133,13 @@ count_of_line entries n = count_by (λ entry. entry.line == n) entries
 abbrev lines_of : List Entry → List ℕ
 lines_of entries = map (λ entry. entry.line) entries
 
-count-lines_of : (entries : List Entry) (n : ℕ) → count_in (lines_of entries) n ≡ count_by (λ entry. entry.line == n) entries
+count-lines_of : (entries : List Entry) (n : ℕ) →
+    count_in (lines_of entries) n ≡ count_by (λ entry. entry.line == n) entries
 count-lines_of [] n = refl
 count-lines_of (entry ∷ entries) n = grind (arith, nat_tests, common_steps, count-lines_of entries n)
 
-none-counted : (entries : List Entry) (n : ℕ) → holds entries n ≡ false → count_by (λ entry. entry.line == n) entries ≡ 0
+none-counted : (entries : List Entry) (n : ℕ) → holds entries n ≡ false →
+    count_by (λ entry. entry.line == n) entries ≡ 0
 none-counted [] n none = refl
 none-counted (entry ∷ entries) n none = grind (arith, nat_tests, common_steps, none-counted entries n)
 
@@ -142,21 +152,30 @@ room_for_written cache hold line sound marked few bit = by (holds hold.entries l
         count_in (lines_of hold.entries) n ≤ count_in (written_lines cache) n
     by_held n other true held =
         let some : 1 ≤ count_in (written_lines cache) n = count-write_bit cache n (marked n held) in
-        let once : count_in (lines_of hold.entries) n ≤ 1 = subst (λ k. k ≤ 1) (sym (count-lines_of hold.entries n)) (sound.once n) in
+        let once : count_in (lines_of hold.entries) n ≤ 1 =
+        subst (λ k. k ≤ 1) (sym (count-lines_of hold.entries n)) (sound.once n) in
         omega arith
     by_held n other false absent =
-        let none : count_in (lines_of hold.entries) n ≡ 0 = count-lines_of hold.entries n ∙ none-counted hold.entries n absent in
+        let none : count_in (lines_of hold.entries) n ≡ 0 =
+        count-lines_of hold.entries n ∙ none-counted hold.entries n absent in
         omega arith
 
-    counted : holds hold.entries line ≡ false → (n : ℕ) → count_in (line ∷ lines_of hold.entries) n ≤ count_in (written_lines cache) n
+    counted : holds hold.entries line ≡ false → (n : ℕ) →
+        count_in (line ∷ lines_of hold.entries) n ≤ count_in (written_lines cache) n
     counted absent n = elim (cases_eq n line) [
       | inl same ↦
           let none : count_in (lines_of hold.entries) n ≡ 0 =
-          count-lines_of hold.entries n ∙ ap (count_of_line hold.entries) same ∙ none-counted hold.entries line absent in
+          count-lines_of hold.entries n ∙ ap (count_of_line hold.entries) same
+          ∙ none-counted hold.entries line absent in
           let some : 1 ≤ count_in (written_lines cache) n =
           subst (λ k. 1 ≤ count_in (written_lines cache) k) (sym same) (count-write_bit cache line bit) in
           omega (arith, none, some, count-here line (lines_of hold.entries) n (sym same))
-      | inr other ↦ omega (arith, by_held n other (holds hold.entries n) refl, count-there line (lines_of hold.entries) n (λ e. other (sym e)))
+      | inr other ↦
+          omega (
+            arith,
+            by_held n other (holds hold.entries n) refl,
+            count-there line (lines_of hold.entries) n (λ e. other (sym e)),
+          )
     ]
 
     fits : holds hold.entries line ≡ false → nat_lt (length hold.entries) hold.limit ≡ true

@@ -1,5 +1,6 @@
 -- an action of a section that ran over its port
-use Rattle.std.proofs.Common.{◌≡◌, ℕ, ◌+◌, ◌<◌, ◌≤◌, Bool, if◌then◌else◌, List, Option, None, Some, refl, ap, sym, subst, ◌∙◌, arith}
+use Rattle.std.proofs.Common.{◌≡◌, ℕ, ◌+◌, ◌<◌, ◌≤◌, Bool, if◌then◌else◌, List, Option, None, Some, refl, ap, sym}
+use Rattle.std.proofs.Common.{subst, ◌∙◌, arith}
 use Rattle.std.specs.Option.{unwrap_or}
 use Rattle.std.proofs.lemmas.Bool.Decides.{nat_tests}
 use Rattle.residency.specs.Cache.{marked, touched, write_bits_of}
@@ -52,8 +53,9 @@ pub bytes_shown : (entries : List Entry) (word new : ℕ) (cache : Cached) →
 bytes_shown entries word new cache free = λ k address. byte_shown entries word new cache free address k
 
 -- a line that is touched, with its bit, is permitted
-pub permitted : (access : Access) (line : ℕ) (cache : List (List Way)) (hold : Held) → IsTouchedLine access line → HasItsBit cache (touch_of access) →
-    IsHold hold → HoldsMarked cache hold.entries → write_bits_of cache ≤ hold.limit → lacking (permits_one line cache hold) access ≡ None
+pub permitted : (access : Access) (line : ℕ) (cache : List (List Way)) (hold : Held) → IsTouchedLine access line →
+    HasItsBit cache (touch_of access) → IsHold hold → HoldsMarked cache hold.entries →
+    write_bits_of cache ≤ hold.limit → lacking (permits_one line cache hold) access ≡ None
 permitted (accesses.Read address len) line cache hold is bit sound marked few = grind (arith, nat_tests, is, bit)
 permitted (accesses.Write address len) line cache hold is bit sound marked few =
     grind (arith, nat_tests, is, bit, room_for_written cache hold line sound marked few)
@@ -82,7 +84,8 @@ module _ (result : Ended) (permits : ℕ → Need → Bool) (access : Access) (e
       by (Goes new store append) = refl
 
 -- what an action leaves of the hold, and of the pool that lends it
-pub record RanInPool (cache : caches.Slotted) (old new : Pooled) (before after : holds.Slotted) (store : Option Store) : Type 0 where
+pub record RanInPool (cache : caches.Slotted) (old new : Pooled) (before after : holds.Slotted)
+    (store : Option Store) : Type 0 where
   pub held : HoldsAfter store (holds.lent old before) (holds.lent new after)
   pub limit : after.limit ≡ before.limit
   pub lent : LendsBoth new cache after
@@ -90,7 +93,8 @@ pub record RanInPool (cache : caches.Slotted) (old new : Pooled) (before after :
   pub others : LeavesOthers before.owner old new
 
 module _ (cache : caches.Slotted) (old new : Pooled) (before after : holds.Slotted) where
-  ran_by : (store : Option Store) → MayPut cache old new before after store → LendsBoth old cache before → RanInPool cache old new before after store
+  ran_by : (store : Option Store) → MayPut cache old new before after store → LendsBoth old cache before →
+      RanInPool cache old new before after store
   ran_by None same owes =
       subst (λ pool. RanInPool cache old pool before after None) (sym same.0)
       (subst (λ hold. RanInPool cache old old before hold None) (sym same.1) (record {
@@ -100,21 +104,24 @@ module _ (cache : caches.Slotted) (old new : Pooled) (before after : holds.Slott
         owner = refl;
         others = leaves-same before.owner old;
       }))
-  ran_by (Some store) put owes = record { held = put.put; limit = put.put.put.limit; lent = put.lent; owner = put.owner; others = put.others }
+  ran_by (Some store) put owes =
+      record { held = put.put; limit = put.put.put.limit; lent = put.lent; owner = put.owner; others = put.others }
 
   pub ran_in_pool : (result : Ended) (permits : ℕ → Need → Bool) (access : Access) (execution : Execution) →
       result ≡ ended_of (lacking permits access) execution → lacking permits access ≡ None →
       MayPut cache old new before after (store_when result execution) → LendsBoth old cache before →
       RanInPool cache old new before after (store_in execution)
   ran_in_pool result permits access execution is nothing put owes =
-      ran_by (store_in execution) (subst (MayPut cache old new before after) (store_ran result permits access execution is nothing) put) owes
+      ran_by (store_in execution)
+      (subst (MayPut cache old new before after) (store_ran result permits access execution is nothing) put) owes
 
 -- a line that has its bit was touched
-pub covered_touch : (old new : Cached) (touch : Touch) → HasItsBit old.residency (Some touch) → IsTouched old new touch.line →
-    IsCoveredIn old new (Some touch)
+pub covered_touch : (old new : Cached) (touch : Touch) → HasItsBit old.residency (Some touch) →
+    IsTouched old new touch.line → IsCoveredIn old new (Some touch)
 covered_touch old new touch bit touches = record {
   ways = touches.ways;
   residency = touches.residency
-      ∙ sym (ap (λ b. touched (if b then old.residency else marked old.residency touch.line touch.need) touch.line) bit);
+      ∙ sym (ap (λ b. touched (if b then old.residency else marked old.residency touch.line touch.need) touch.line)
+      bit);
   copies = touches.copies;
 }

@@ -1,5 +1,6 @@
 -- what each call of a section makes of it, and of its hart's cache
-use Rattle.std.specs.Prelude.{ℕ, ◌≡◌, ◌+◌, ◌<◌, Bool, true, false, if◌then◌else◌, List, [], length, slice_index, Option, None, Some, option_map}
+use Rattle.std.specs.Prelude.{ℕ, ◌≡◌, ◌+◌, ◌<◌, Bool, true, false, if◌then◌else◌, List, [], length, slice_index, Option}
+use Rattle.std.specs.Prelude.{None, Some, option_map}
 use Rattle.residency.specs.Cache.{committed, write_bit}
 use Rattle.cache_sets.specs.Cached.{Cached, Copy, bytes_of, cached_byte, copy_in}
 use Rattle.core_step.specs.Run.{IsAligned}
@@ -42,7 +43,8 @@ begun_state state word old new rd = record {
   armed = None;
 }
 
--- a section has armed: its LR has put the value that it found into a register, reserves its word, and is the first of its instructions
+-- a section has armed: its LR has put the value that it found into a register, reserves its word, and
+-- is the first of its instructions
 abbrev pub armed_state : SectionState → ℕ → ℕ → ℕ → SectionState
 armed_state state word old rd = record {
   marks = record { present = reserved_view state.marks.present rd word old; mark = Some state.marks.present };
@@ -51,7 +53,8 @@ armed_state state word old rd = record {
   armed = Some (record { armed = record { count = 1; word = word }; old = old });
 }
 
--- an armed section has become a live one: its SC, which succeeds, is the last of its instructions, and the checkpoint is at the LR
+-- an armed section has become a live one: its SC, which succeeds, is the last of its instructions,
+-- and the checkpoint is at the LR
 abbrev pub elided_state : SectionState → Reserved → ℕ → ℕ → SectionState
 elided_state state reserved new rd = record {
   marks = record state.marks { present = release_of (put_of state.marks.present rd 0) };
@@ -85,18 +88,21 @@ ends_section _ = false
 -- what an action of a section does, over the bytes that the section shows
 abbrev pub run_of : Pooled → SectionState → Section → Cached → Action → Execution
 run_of pool state section cache action =
-    perform action state.marks.present (section_byte (hold_in pool state).entries section.word section.new (cached_byte cache))
+    perform action state.marks.present
+    (section_byte (hold_in pool state).entries section.word section.new (cached_byte cache))
 
--- an action that a section may run privately: it neither calls nor stops its hart, stores to no byte of the lock word, and what it
--- touches has its bit
-pub record MayBuffer (pool : Pooled) (state : SectionState) (section : Section) (cache : Cached) (action : Action) : Type 0 where
+-- an action that a section may run privately: it neither calls nor stops its hart, stores to no byte of the lock word,
+-- and what it touches has its bit
+pub record MayBuffer (pool : Pooled) (state : SectionState) (section : Section) (cache : Cached)
+    (action : Action) : Type 0 where
   pub goes_on : ends_section action ≡ false
   pub aligned : IsAligned action
   pub unmixed : overlaps section.word (store_in (run_of pool state section cache action)) ≡ false
   pub bit : HasItsBit cache.residency (touch_of (footprint action))
 
 -- it ran: the view is the one after it, its store is held, and the checkpoint stays
-pub record HasRun (before after : Pooled) (old new : SectionState) (section : Section) (execution : Execution) : Type 0 where
+pub record HasRun (before after : Pooled) (old new : SectionState) (section : Section)
+    (execution : Execution) : Type 0 where
   pub marks : new.marks ≡ record old.marks { present = view_after execution old.marks.present }
   pub hold : HoldsAfter (store_in execution) (hold_in before old) (hold_in after new)
   pub limit : new.hold.limit ≡ old.hold.limit
@@ -129,10 +135,13 @@ pub record IsCoveredIn (old new : Cached) (touch : Option Touch) : Type 0 where
   pub residency : new.residency ≡ covered old.residency touch
   pub copies : (line : ℕ) → copy_in new line ≡ copy_in old line
 
--- the release ran: the view is the one after it, whatever lies under the hold; no checkpoint stands, and nothing is held
+-- the release ran: the view is the one after it, whatever lies under the hold; no
+-- checkpoint stands, and nothing is held
 pub record HasReleased (pool : Pooled) (old new : SectionState) (section : Section) (action : Action) : Type 0 where
   pub marks : (under : ℕ → ℕ) → new.marks ≡
-      unmarked (view_after (perform action old.marks.present (section_byte (hold_in pool old).entries section.word section.new under))
+      unmarked
+      (view_after (perform action old.marks.present
+      (section_byte (hold_in pool old).entries section.word section.new under))
       old.marks.present)
   pub hold : new.hold ≡ record old.hold { entries = [] }
   pub live : new.live ≡ None
@@ -149,12 +158,13 @@ pub record HasReleasedBy (old new : SectionState) (section : Section) (insn : Op
 abbrev pub committed_copy : Bool → Copy → Copy
 committed_copy written copy = record copy { letter = if written then M else copy.letter }
 
--- the section's stores are in the cache: each held line is modified and has the held bytes over its own; every other copy has the
--- bytes that it had; and no line has a bit
+-- the section's stores are in the cache: each held line is modified and has the held bytes over its own; every other
+-- copy has the bytes that it had; and no line has a bit
 pub record HasCommitted (old new : Cached) (hold : List Entry) : Type 0 where
   pub ways : new.ways ≡ old.ways
   pub residency : new.residency ≡ committed old.residency
-  pub held : (line : ℕ) → holds hold line ≡ true → copy_in new line ≡ Some (record { letter = M; bytes = bytes_of new line })
+  pub held : (line : ℕ) → holds hold line ≡ true →
+      copy_in new line ≡ Some (record { letter = M; bytes = bytes_of new line })
   pub size : (line : ℕ) → holds hold line ≡ true → length (bytes_of new line) ≡ LINE_BYTES
   pub bytes : (line place : ℕ) → holds hold line ≡ true → place < LINE_BYTES →
       slice_index (bytes_of new line) place ≡ seen_at hold line (bytes_of old line) place

@@ -20,12 +20,14 @@ pub record AreDrained (hold now : Held) (cache filled : Cached) : Type 0 where
   pub shows : (line place : ℕ) → holds hold.entries line ≡ true → place < LINE_BYTES →
       seen_at now.entries line (bytes_of filled line) place ≡ seen_at hold.entries line (bytes_of cache line) place
   -- a line that was drained has all its bytes
-  pub size : (line : ℕ) → holds hold.entries line ≡ true → holds now.entries line ≡ false → length (bytes_of filled line) ≡ LINE_BYTES
+  pub size : (line : ℕ) → holds hold.entries line ≡ true → holds now.entries line ≡ false →
+      length (bytes_of filled line) ≡ LINE_BYTES
   pub others : (line : ℕ) → holds hold.entries line ≡ false → copy_in filled line ≡ copy_in cache line
 
 -- so in a pool, which lends the hold and the cache still, and leaves what all other owners have
 pub record AreDrainedIn (cache : caches.Slotted) (old new : Pooled) (before after : slotted.Slotted) : Type 0 where
-  pub drained : AreDrained (slotted.lent old before) (slotted.lent new after) (caches.lent old cache) (caches.lent new cache)
+  pub drained : AreDrained (slotted.lent old before) (slotted.lent new after) (caches.lent old cache)
+      (caches.lent new cache)
   pub lent : LendsBoth new cache after
   pub owner : after.owner ≡ before.owner
   pub beside : LeavesBeside cache.owner before.owner old new
@@ -37,8 +39,10 @@ pub record IsDrainedInto (hold now : Held) (cache filled : Cached) (line : ℕ) 
   pub written : IsWritten cache filled line (bytes_of filled line)
 
 -- so in a pool
-pub record IsDrainedIn (cache : caches.Slotted) (old new : Pooled) (before after : slotted.Slotted) (line : ℕ) : Type 0 where
-  pub drained : IsDrainedInto (slotted.lent old before) (slotted.lent new after) (caches.lent old cache) (caches.lent new cache) line
+pub record IsDrainedIn (cache : caches.Slotted) (old new : Pooled) (before after : slotted.Slotted)
+    (line : ℕ) : Type 0 where
+  pub drained : IsDrainedInto (slotted.lent old before) (slotted.lent new after) (caches.lent old cache)
+      (caches.lent new cache) line
   pub lent : LendsBoth new cache after
   pub owner : after.owner ≡ before.owner
   pub beside : LeavesBeside cache.owner before.owner old new

@@ -14,8 +14,10 @@ pub record LendsBoth (pool : Pooled) (cache : caches.Slotted) (hold : holds.Slot
   pub hold_lent : holds.IsLent pool hold
   pub apart : cache.owner ≢ hold.owner
 
--- the low bytes of a value were stored into a lent hold: the pool lends both still, and leaves what all other owners have
-pub record IsPutInPool (cache : caches.Slotted) (old new : Pooled) (before after : holds.Slotted) (address len value : ℕ) : Type 0 where
+-- the low bytes of a value were stored into a lent hold: the pool lends both still, and
+-- leaves what all other owners have
+pub record IsPutInPool (cache : caches.Slotted) (old new : Pooled) (before after : holds.Slotted)
+    (address len value : ℕ) : Type 0 where
   pub put : IsPutInto (holds.lent old before) (holds.lent new after) address len value
   pub lent : LendsBoth new cache after
   pub owner : after.owner ≡ before.owner
@@ -24,7 +26,8 @@ pub record IsPutInPool (cache : caches.Slotted) (old new : Pooled) (before after
 -- so by a store, if there is one, and else nothing has changed
 abbrev pub MayPut : caches.Slotted → Pooled → Pooled → holds.Slotted → holds.Slotted → Option Store → Type 0
 MayPut cache old new before after store =
-    MatchOption store ((new ≡ old) × (after ≡ before)) (λ s. IsPutInPool cache old new before after s.address s.len s.value)
+    MatchOption store ((new ≡ old) × (after ≡ before))
+    (λ s. IsPutInPool cache old new before after s.address s.len s.value)
 
 -- a pool leaves to every owner but these two what that one has
 abbrev pub LeavesBeside : ℕ → ℕ → Pooled → Pooled → Type 0

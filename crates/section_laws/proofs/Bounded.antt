@@ -1,14 +1,19 @@
--- the caches of a machine have the configuration's shape, room for the lines that are waited for, and no more written lines than configured
-use Rattle.std.proofs.Common.{◌≡◌, ◌∙◌, ℕ, zero, suc, ◌+◌, ◌≤◌, ◌<◌, Bool, true, false, not, List, Option, None, Some, map, refl, sym, inl, inr, ◌⊎◌}
+-- the caches of a machine have the configuration's shape, room for the lines that are waited for, and no
+-- more written lines than configured
+use Rattle.std.proofs.Common.{◌≡◌, ◌∙◌, ℕ, zero, suc, ◌+◌, ◌≤◌, ◌<◌, Bool, true, false, not, List, Option, None, Some}
+use Rattle.std.proofs.Common.{map, refl, sym, inl, inr, ◌⊎◌}
 use Rattle.std.proofs.Common.{arith, if◌then◌else◌}
 use Rattle.std.proofs.lemmas.List.{length-map, length-replicate}
 use Rattle.bus_order.specs.Order.{Request}
-use Rattle.residency.specs.Cache.{cleared, committed, empty_cache, lettered, marked, room_of, touched, write_bit, write_bits_of}
+use Rattle.residency.specs.Cache.{cleared, committed, empty_cache, lettered, marked, room_of, touched, write_bit}
+use Rattle.residency.specs.Cache.{write_bits_of}
 use Rattle.residency.specs.Residency.{Way, without_bits}
 use Rattle.residency.proofs.Laws.CacheLemmas.{length-with_set}
-use Rattle.residency.proofs.Laws.MarkLemmas.{write_bits_of-cleared, write_bits_of-committed, write_bits_of-lettered, write_bits_of-marked_read}
+use Rattle.residency.proofs.Laws.MarkLemmas.{write_bits_of-cleared, write_bits_of-committed, write_bits_of-lettered}
+use Rattle.residency.proofs.Laws.MarkLemmas.{write_bits_of-marked_read}
 use Rattle.residency.proofs.Laws.MarkLemmas.{write_bits_of-touched}
-use Rattle.residency.proofs.Laws.WellFormedLemmas.{well_formed-cleared, well_formed-committed, well_formed-empty_cache, well_formed-lettered}
+use Rattle.residency.proofs.Laws.WellFormedLemmas.{well_formed-cleared, well_formed-committed, well_formed-empty_cache}
+use Rattle.residency.proofs.Laws.WellFormedLemmas.{well_formed-lettered}
 use Rattle.residency.proofs.Laws.WellFormedLemmas.{well_formed-marked, well_formed-touched}
 use Rattle.residency.proofs.Laws.Rooms.{room_cleared}
 use Rattle.el_base.specs.declared.config.Config.{Config}
@@ -21,8 +26,10 @@ use Rattle.el_model.specs.Upcoming.{Touch}
 use Rattle.el_model.proofs.Laws.Tests.{by_test}
 use Rattle.moesi.specs.declared.letter.Letter.TheVariants.{M}
 use Rattle.section_laws.specs.Bounds.{IsShaped}
-use Rattle.section_laws.proofs.Laws.ServedCaches.{WritesNoMore, marked_writes, others_room, others_sets, others_well_formed, others_writes, own_after}
-use Rattle.section_laws.proofs.Laws.ServedCaches.{own_after_sets, own_after_well_formed, own_after_write_bit, own_after_writes}
+use Rattle.section_laws.proofs.Laws.ServedCaches.{WritesNoMore, marked_writes, others_room, others_sets}
+use Rattle.section_laws.proofs.Laws.ServedCaches.{others_well_formed, others_writes, own_after}
+use Rattle.section_laws.proofs.Laws.ServedCaches.{own_after_sets, own_after_well_formed, own_after_write_bit}
+use Rattle.section_laws.proofs.Laws.ServedCaches.{own_after_writes}
 
 -- a cache of the configuration's shape, with no more written lines than configured
 pub record IsConfigured (config : Config) (cache : List (List Way)) : Type 0 where
@@ -41,25 +48,28 @@ pub record HasSome (config : Config) : Type 0 where
   pub lines : 1 ≤ config.lines
 
 -- a cache with no more written lines
-fewer_written : (config : Config) (old new : List (List Way)) → IsShaped config new → WritesNoMore old new → IsConfigured config old →
-    IsConfigured config new
+fewer_written : (config : Config) (old new : List (List Way)) → IsShaped config new → WritesNoMore old new →
+    IsConfigured config old → IsConfigured config new
 fewer_written config old new shaped fewer now = record {
   shaped = shaped;
   written = let less = fewer.no_more in let was = now.written in omega (arith, less, was);
 }
 
-same_written : (config : Config) (old new : List (List Way)) → IsShaped config new → write_bits_of new ≡ write_bits_of old →
-    IsConfigured config old → IsConfigured config new
-same_written config old new shaped same now = record { shaped = shaped; written = let was = now.written in omega (arith, same, was) }
+same_written : (config : Config) (old new : List (List Way)) → IsShaped config new →
+    write_bits_of new ≡ write_bits_of old → IsConfigured config old → IsConfigured config new
+same_written config old new shaped same now =
+    record { shaped = shaped; written = let was = now.written in omega (arith, same, was) }
 
-place_kept : (config : Config) (old new : List (List Way)) (request : Request) → room_of config.ways new request.line ≡ true →
-    WritesNoMore old new → IsConfigured config old → HasPlace config old request → HasPlace config new request
+place_kept : (config : Config) (old new : List (List Way)) (request : Request) →
+    room_of config.ways new request.line ≡ true → WritesNoMore old new → IsConfigured config old →
+    HasPlace config old request → HasPlace config new request
 place_kept config old new request room fewer now place = record {
   room = room;
   spare = λ write is. by write (fewer.unwritten request.line is);
 }
   where
-    by : request.need ≡ Write → (write_bit old request.line ≡ false) ⊎ (write_bits_of new < write_bits_of old) → write_bits_of new < config.lines
+    by : request.need ≡ Write → (write_bit old request.line ≡ false) ⊎ (write_bits_of new < write_bits_of old) →
+        write_bits_of new < config.lines
     by write (inl was) = let less = fewer.no_more in let spare = place.spare write was in omega (arith, less, spare)
     by write (inr less) = let was = now.written in omega (arith, less, was)
 
@@ -70,19 +80,22 @@ shaped_cleared config cache shaped = record {
   well_formed = well_formed-cleared config.ways cache shaped.well_formed;
 }
 
-pub configured_cleared : (config : Config) (cache : List (List Way)) → IsConfigured config cache → IsConfigured config (cleared cache)
+pub configured_cleared : (config : Config) (cache : List (List Way)) → IsConfigured config cache →
+    IsConfigured config (cleared cache)
 configured_cleared config cache now = record {
   shaped = shaped_cleared config cache now.shaped;
   written = let none = write_bits_of-cleared cache in omega (arith, none);
 }
 
-pub place_cleared : (config : Config) (cache : List (List Way)) (request : Request) → HasSome config → HasPlace config (cleared cache) request
+pub place_cleared : (config : Config) (cache : List (List Way)) (request : Request) → HasSome config →
+    HasPlace config (cleared cache) request
 place_cleared config cache request some = record {
   room = room_cleared config.ways cache request.line some.ways;
   spare = λ write is. let lines = some.lines in let none = write_bits_of-cleared cache in omega (arith, lines, none);
 }
 
-pub configured_committed : (config : Config) (cache : List (List Way)) → IsConfigured config cache → IsConfigured config (committed cache)
+pub configured_committed : (config : Config) (cache : List (List Way)) → IsConfigured config cache →
+    IsConfigured config (committed cache)
 configured_committed config cache now = record {
   shaped = record {
     sets = length-map cache _ ∙ now.shaped.sets;
@@ -92,28 +105,30 @@ configured_committed config cache now = record {
 }
 
 -- another hart's cache as a request is served
-shaped_others : (config : Config) (had : Bool) (need : Need) (cache : List (List Way)) (line : ℕ) → IsShaped config cache →
-    IsShaped config (others_cache had need cache line)
+shaped_others : (config : Config) (had : Bool) (need : Need) (cache : List (List Way)) (line : ℕ) →
+    IsShaped config cache → IsShaped config (others_cache had need cache line)
 shaped_others config had need cache line shaped = record {
   sets = others_sets had need cache line ∙ shaped.sets;
   well_formed = others_well_formed config.ways had need cache line shaped.well_formed;
 }
 
-pub configured_others : (config : Config) (had : Bool) (need : Need) (cache : List (List Way)) (line : ℕ) → IsConfigured config cache →
-    IsConfigured config (others_cache had need cache line)
+pub configured_others : (config : Config) (had : Bool) (need : Need) (cache : List (List Way)) (line : ℕ) →
+    IsConfigured config cache → IsConfigured config (others_cache had need cache line)
 configured_others config had need cache line now =
     fewer_written config cache (others_cache had need cache line) (shaped_others config had need cache line now.shaped)
     (others_writes config.ways had need cache line now.shaped.well_formed) now
 
-pub place_others : (config : Config) (had : Bool) (need : Need) (cache : List (List Way)) (line : ℕ) (request : Request) → IsConfigured config cache →
-    HasPlace config cache request → HasPlace config (others_cache had need cache line) request
+pub place_others : (config : Config) (had : Bool) (need : Need) (cache : List (List Way)) (line : ℕ)
+    (request : Request) → IsConfigured config cache → HasPlace config cache request →
+    HasPlace config (others_cache had need cache line) request
 place_others config had need cache line request now place =
     place_kept config cache (others_cache had need cache line) request
     (others_room config.ways had need cache line request.line now.shaped.well_formed place.room)
     (others_writes config.ways had need cache line now.shaped.well_formed) now place
 
 -- a line that was touched, or changed its letter, or got a bit
-pub configured_touched : (config : Config) (cache : List (List Way)) (line : ℕ) → IsConfigured config cache → IsConfigured config (touched cache line)
+pub configured_touched : (config : Config) (cache : List (List Way)) (line : ℕ) → IsConfigured config cache →
+    IsConfigured config (touched cache line)
 configured_touched config cache line now =
     same_written config cache (touched cache line)
     (record {
@@ -122,7 +137,8 @@ configured_touched config cache line now =
     })
     (write_bits_of-touched config.ways cache line now.shaped.well_formed) now
 
-configured_modified : (config : Config) (cache : List (List Way)) (line : ℕ) → IsConfigured config cache → IsConfigured config (lettered cache line M)
+configured_modified : (config : Config) (cache : List (List Way)) (line : ℕ) → IsConfigured config cache →
+    IsConfigured config (lettered cache line M)
 configured_modified config cache line now =
     same_written config cache (lettered cache line M)
     (record {
@@ -131,14 +147,16 @@ configured_modified config cache line now =
     })
     (write_bits_of-lettered config.ways cache line M now.shaped.well_formed) now
 
-shaped_marked : (config : Config) (cache : List (List Way)) (line : ℕ) (need : Need) → IsShaped config cache → IsShaped config (marked cache line need)
+shaped_marked : (config : Config) (cache : List (List Way)) (line : ℕ) (need : Need) → IsShaped config cache →
+    IsShaped config (marked cache line need)
 shaped_marked config cache line need shaped = record {
   sets = length-with_set cache line _ ∙ shaped.sets;
   well_formed = well_formed-marked config.ways cache line need shaped.well_formed;
 }
 
-pub configured_marked : (config : Config) (cache : List (List Way)) (line : ℕ) (need : Need) → IsConfigured config cache →
-    (need ≡ Write → write_bit cache line ≡ false → write_bits_of cache < config.lines) → IsConfigured config (marked cache line need)
+pub configured_marked : (config : Config) (cache : List (List Way)) (line : ℕ) (need : Need) →
+    IsConfigured config cache → (need ≡ Write → write_bit cache line ≡ false → write_bits_of cache < config.lines) →
+    IsConfigured config (marked cache line need)
 configured_marked config cache line Read now spare =
     same_written config cache (marked cache line Read) (shaped_marked config cache line Read now.shaped)
     (write_bits_of-marked_read config.ways cache line now.shaped.well_formed) now
@@ -154,24 +172,29 @@ configured_marked config cache line Write now spare = record {
     by false is most = let few = spare refl is in omega (arith, most, few)
 
 -- the cache of the served hart, and with the bit of its request
-pub configured_own : (config : Config) (others : Bool) (cache : List (List Way)) (request : Request) → IsConfigured config cache →
-    HasPlace config cache request → IsConfigured config (own_after config.ways others request.need cache request.line)
+pub configured_own : (config : Config) (others : Bool) (cache : List (List Way)) (request : Request) →
+    IsConfigured config cache → HasPlace config cache request →
+    IsConfigured config (own_after config.ways others request.need cache request.line)
 configured_own config others cache request now place =
     same_written config cache (own_after config.ways others request.need cache request.line)
     (record {
       sets = own_after_sets config.ways others request.need cache request.line ∙ now.shaped.sets;
-      well_formed = own_after_well_formed config.ways others request.need cache request.line now.shaped.well_formed place.room;
+      well_formed =
+          own_after_well_formed config.ways others request.need cache request.line now.shaped.well_formed place.room;
     })
     (own_after_writes config.ways others request.need cache request.line now.shaped.well_formed place.room) now
 
-pub configured_claimed : (config : Config) (others : Bool) (cache : List (List Way)) (request : Request) → IsConfigured config cache →
-    HasPlace config cache request →
-    IsConfigured config (marked (own_after config.ways others request.need cache request.line) request.line request.need)
+pub configured_claimed : (config : Config) (others : Bool) (cache : List (List Way)) (request : Request) →
+    IsConfigured config cache → HasPlace config cache request →
+    IsConfigured config
+    (marked (own_after config.ways others request.need cache request.line) request.line request.need)
 configured_claimed config others cache request now place =
     let own = own_after config.ways others request.need cache request.line in
     configured_marked config own request.line request.need (configured_own config others cache request now place)
     (λ write is.
-    let spare = place.spare write (sym (own_after_write_bit config.ways others request.need cache request.line now.shaped.well_formed) ∙ is) in
+    let spare =
+    place.spare write
+    (sym (own_after_write_bit config.ways others request.need cache request.line now.shaped.well_formed) ∙ is) in
     let same = own_after_writes config.ways others request.need cache request.line now.shaped.well_formed place.room in
     omega (arith, spare, same))
 
@@ -179,7 +202,8 @@ configured_claimed config others cache request now place =
 configured_access : (config : Config) (cache : List (List Way)) (line : ℕ) (need : Need) → IsConfigured config cache →
     IsConfigured config (after_access cache line need)
 configured_access config cache line Read now = configured_touched config cache line now
-configured_access config cache line Write now = configured_modified config (touched cache line) line (configured_touched config cache line now)
+configured_access config cache line Write now =
+    configured_modified config (touched cache line) line (configured_touched config cache line now)
 
 pub configured_touch : (config : Config) (cache : List (List Way)) (touch : Option Touch) → IsConfigured config cache →
     IsConfigured config (after_touch cache touch)
@@ -192,12 +216,13 @@ MayCover config cache None = Unit {0}
 MayCover config cache (Some touch) =
     is_covered cache touch.line touch.need ≡ false → touch.need ≡ Write → write_bits_of cache < config.lines
 
-pub configured_covered : (config : Config) (cache : List (List Way)) (touch : Option Touch) → MayCover config cache touch →
-    IsConfigured config cache → IsConfigured config (covered cache touch)
+pub configured_covered : (config : Config) (cache : List (List Way)) (touch : Option Touch) →
+    MayCover config cache touch → IsConfigured config cache → IsConfigured config (covered cache touch)
 configured_covered config cache None may now = now
 configured_covered config cache (Some touch) may now =
     configured_touched config _ touch.line
-    (by_test (IsConfigured config) (is_covered cache touch.line touch.need) cache (marked cache touch.line touch.need) (λ has. now)
+    (by_test (IsConfigured config) (is_covered cache touch.line touch.need) cache
+    (marked cache touch.line touch.need) (λ has. now)
     (λ new. configured_marked config cache touch.line touch.need now (λ write is. may new write)))
 
 -- a cache without lines

@@ -1,18 +1,21 @@
 -- the counters of a predictor stay from 0 to 3
-use Rattle.std.proofs.Common.{◌∙◌, ◌≤◌, ◌+◌, ℕ, zero, suc, Bool, true, false, List, [], ◌∷◌, Option, None, Some, is_some, refl, arith, if◌then◌else◌}
+use Rattle.std.proofs.Common.{◌∙◌, ◌≤◌, ◌+◌, ℕ, zero, suc, Bool, true, false, List, [], ◌∷◌, Option, None, Some}
+use Rattle.std.proofs.Common.{is_some, refl, arith, if◌then◌else◌}
 use Rattle.std.specs.Prelude.{slice_index, slice_set}
 use Rattle.std.proofs.Math.ListN.{length-set}
 use Rattle.std.proofs.Math.Nat.{min-le_right}
 use Rattle.bus_order.specs.Order.{Request}
 use Rattle.el_base.specs.declared.outcomes.Cause.{Cause}
 use Rattle.el_base.specs.declared.outcomes.Cause.TheVariants.{Room, Lines, Long, Call, Mixed}
-use Rattle.el_model.specs.Deed.{Arms, Begins, Buffers, Commits, Continues, Deed, Elides, LetsGo, Misses, Rests, RollsBack, Runs, Waits, hart_after}
+use Rattle.el_model.specs.Deed.{Arms, Begins, Buffers, Commits, Continues, Deed, Elides, LetsGo, Misses, Rests}
+use Rattle.el_model.specs.Deed.{RollsBack, Runs, Waits, hart_after}
 use Rattle.el_model.specs.Plain.{after_candidate, candidate_of, seen_by, watched, watching_from}
 use Rattle.el_model.specs.RollBack.{blamed}
 use Rattle.el_model.specs.Serve.{with_claim}
 use Rattle.el_model.specs.State.{Hart, ModelState, hart_of}
 use Rattle.el_model.specs.Upcoming.{Swap}
-use Rattle.pair_table.specs.Predictor.{Predictor, Watch, confidence_of, counted, counter_number, counting, judged, saw_with, settled, verdict_on}
+use Rattle.pair_table.specs.Predictor.{Predictor, Watch, confidence_of, counted, counter_number, counting, judged}
+use Rattle.pair_table.specs.Predictor.{saw_with, settled, verdict_on}
 use Rattle.pair_table.specs.declared.seen.Seen.{Seen}
 use Rattle.pair_table.specs.declared.verdict.Verdict.{Verdict}
 use Rattle.pair_table.specs.declared.verdict.Verdict.TheVariants.{Up, Down}
@@ -41,7 +44,8 @@ settled_small : (predictor : Predictor) (pc : ℕ) (verdict : Verdict) → AreCo
 settled_small predictor pc verdict now = record {
   all = length-set predictor.counters (counter_number pc) _ ∙ now.all;
   small =
-      set_small predictor.counters (counter_number pc) _ (counted_small verdict (confidence_of predictor pc) (now.small (counter_number pc)))
+      set_small predictor.counters (counter_number pc) _
+      (counted_small verdict (confidence_of predictor pc) (now.small (counter_number pc)))
       now.small;
 }
 
@@ -56,13 +60,14 @@ saw_small predictor None seen long now = now
 saw_small predictor (Some watch) seen long now =
     judged_small predictor (counting watch) (verdict_on seen long (counting watch).count) now
 
-watched_small : (state : ModelState) (h : ℕ) (predictor : Predictor) (watch : Option Watch) → AreCounters predictor.counters →
-    AreCounters (watched state h predictor watch).counters
+watched_small : (state : ModelState) (h : ℕ) (predictor : Predictor) (watch : Option Watch) →
+    AreCounters predictor.counters → AreCounters (watched state h predictor watch).counters
 watched_small state h predictor None now = now
 watched_small state h predictor (Some watch) now =
     saw_small predictor predictor.watch (seen_by state.committed h watch) state.config.long now
 
-blamed_small : (cause : Cause) (pc : ℕ) (predictor : Predictor) → AreCounters predictor.counters → AreCounters (blamed cause pc predictor).counters
+blamed_small : (cause : Cause) (pc : ℕ) (predictor : Predictor) → AreCounters predictor.counters →
+    AreCounters (blamed cause pc predictor).counters
 blamed_small Room pc predictor now = now
 blamed_small Lines pc predictor now = now
 blamed_small Long pc predictor now = settled_small predictor pc Down now
@@ -78,7 +83,8 @@ from_small : (predictor : Predictor) (pc : Option ℕ) (swap : Swap) → AreCoun
 from_small predictor None swap now = now
 from_small predictor (Some pc) swap now = now
 
-watching_small : (predictor : Predictor) (had_watch : Bool) (pc : Option ℕ) (swap : Swap) → AreCounters predictor.counters →
+watching_small : (predictor : Predictor) (had_watch : Bool) (pc : Option ℕ) (swap : Swap) →
+    AreCounters predictor.counters →
     AreCounters (if had_watch then predictor else watching_from predictor pc swap).counters
 watching_small predictor true pc swap now = now
 watching_small predictor false pc swap now = from_small predictor pc swap now
@@ -88,7 +94,8 @@ candidate_holds : (pc : Option ℕ) (had_watch : Bool) (candidate : Option Swap)
 candidate_holds pc had_watch None hart now = now
 candidate_holds pc had_watch (Some swap) hart now = watching_small hart.predictor had_watch pc swap now
 
-deed_holds : (state : ModelState) (h : ℕ) (deed : Deed) (hart : Hart) → Holds hart → Holds (hart_after state h deed hart)
+deed_holds : (state : ModelState) (h : ℕ) (deed : Deed) (hart : Hart) → Holds hart →
+    Holds (hart_after state h deed hart)
 deed_holds state h Rests hart now = now
 deed_holds state h Waits hart now = now
 deed_holds state h (Misses line need) hart now = now

@@ -15,7 +15,8 @@ use Rattle.el_model.specs.BusEvent.{Becomes, IsAbsent, IsAnswered, IsBehind, IsD
 use Rattle.el_model.specs.BusEvent.{IsPosted, IsSent, IsToldOn, LosesIt}
 use Rattle.el_model.specs.BusEvent.{Nothing, Places, Sees, Serves, Start, Starts, StartsWhere, Takes, having_taken}
 use Rattle.el_model.specs.BusEvent.{started}
-use Rattle.el_model.specs.Deed.{Arms, Begins, Buffers, Commits, Continues, Deed, Elides, LetsGo, Misses, Rests, RollsBack, Runs, Waits, hart_after}
+use Rattle.el_model.specs.Deed.{Arms, Begins, Buffers, Commits, Continues, Deed, Elides, LetsGo, Misses, Rests}
+use Rattle.el_model.specs.Deed.{RollsBack, Runs, Waits, hart_after}
 use Rattle.el_model.specs.Next.{after, next}
 use Rattle.el_model.specs.Plain.{after_candidate, candidate_of}
 use Rattle.el_model.specs.RollBack.{beaten, most_tries, out_of_section}
@@ -28,10 +29,12 @@ use Rattle.el_model.proofs.Laws.EachHart.{Each}
 use Rattle.el_model.proofs.Laws.FromStart.{kept_after}
 use Rattle.el_model.proofs.Laws.Tests.{by_hart}
 use Rattle.mail.specs.Mailbox.{Marker, Message, Probe}
-use Rattle.section_laws.specs.Messages.{IsMailbox, IsOther, IsSetOfOthers, MessagesAreFewerThanHarts, MessagesNameOthersOnce, NamesOthersOnce, named}
+use Rattle.section_laws.specs.Messages.{IsMailbox, IsOther, IsSetOfOthers, MessagesAreFewerThanHarts}
+use Rattle.section_laws.specs.Messages.{MessagesNameOthersOnce, NamesOthersOnce, named}
 use Rattle.section_laws.proofs.Boxes.{fewer_others, mailbox_of_served, mailbox_posted, mailbox_taken}
 use Rattle.section_laws.proofs.Boxes.{mailbox_without_probe, no_mail}
-use Rattle.section_laws.proofs.Boxes.{no_others, oldest_other, origins_are_others, others_excluded, others_included, senders_are_others}
+use Rattle.section_laws.proofs.Boxes.{no_others, oldest_other, origins_are_others, others_excluded, others_included}
+use Rattle.section_laws.proofs.Boxes.{senders_are_others}
 use Rattle.section_laws.proofs.Laws.Moves.{step_keeps}
 use Rattle.section_laws.proofs.Laws.Numbered.{Once, first_once, next_count, next_once, order_keeps, raised_exists}
 use Rattle.section_laws.proofs.Laws.OrderedHarts.{AreBelow, below_kept}
@@ -52,7 +55,8 @@ try_holds : (count h : ℕ) (hart : Hart) (last : Bool) → Holds count h hart �
 try_holds count h hart true now = now
 try_holds count h hart false now = now
 
-beaten_holds : (count : ℕ) (mode : Mode) (winner : Option Stamp) (h : ℕ) (hart : Hart) → Holds count h hart → Holds count h (beaten mode winner hart)
+beaten_holds : (count : ℕ) (mode : Mode) (winner : Option Stamp) (h : ℕ) (hart : Hart) → Holds count h hart →
+    Holds count h (beaten mode winner hart)
 beaten_holds count Tlr winner h hart now = now
 beaten_holds count Sle winner h hart now = try_holds count h (out_of_section hart) (hart.tries + 1 == most_tries) now
 beaten_holds count Plain winner h hart now = try_holds count h (out_of_section hart) (hart.tries + 1 == most_tries) now
@@ -65,23 +69,25 @@ record Mailed (count : ℕ) (state : ModelState) : Type 0 where
   each : Each (Holds count) state
 
 -- a request of a hart that has none in order, and one that is there
-apart_from : (order : List Request) (h : ℕ) (request : Request) → request_of order request.hart ≡ Some request → request_of order h ≡ None →
-    request.hart ≢ h
+apart_from : (order : List Request) (h : ℕ) (request : Request) → request_of order request.hart ≡ Some request →
+    request_of order h ≡ None → request.hart ≢ h
 apart_from order h request is free same = some_none (sym is ∙ ap (request_of order) same ∙ free)
 
 not_ordered : (count : ℕ) (state : ModelState) (by : ℕ) (request : Request) → Mailed count state →
     raised_of state by ≡ Some request →
     ordered_of state request.hart ≡ None
 not_ordered count state by request now raised =
-    free_of_order state request.hart request now.once.sound (ap (raised_of state) ((now.once.sound by).own request raised) ∙ raised)
+    free_of_order state request.hart request now.once.sound
+    (ap (raised_of state) ((now.once.sound by).own request raised) ∙ raised)
 
 taken_other : (count : ℕ) (state : ModelState) (by : ℕ) (message : Message) (others : List Message) →
     Mailed count state →
     (hart_of state by).mail ≡ message ∷ others → IsOther count by (named message)
-taken_other count state by message others now is = oldest_other count by message others (subst (IsMailbox count by) is (now.each by).mail_is)
+taken_other count state by message others now is =
+    oldest_other count by message others (subst (IsMailbox count by) is (now.each by).mail_is)
 
--- who sends a message is another hart than the one to which it is posted, and so is an origin: the former head of a line, or the last
--- one before a request that is ordered, has a request in order already
+-- who sends a message is another hart than the one to which it is posted, and so is an origin: the former head of a
+-- line, or the last one before a request that is ordered, has a request in order already
 posted_other : (count : ℕ) (state : ModelState) (by : ℕ) {start : Start} {h : ℕ} {message : Message} →
     Mailed count state →
     StartsWhere state by start → IsPosted state by start h message → IsOther count h (named message)
@@ -97,7 +103,9 @@ posted_other count state by now may (IsPassed request former mode is) =
     let exists = raised_exists state by request now.once.sound may.raised in
     record {
       exists = omega (arith, many, exists);
-      apart = λ same. apart_from state.order request.hart former there (not_ordered count state by request now may.raised) (sym same);
+      apart =
+          λ same. apart_from state.order request.hart former there
+          (not_ordered count state by request now may.raised) (sym same);
     }
 posted_other count state by now where_it (IsDeferred start head h defers below) =
     let many = now.many in record { exists = omega (arith, many, below); apart = defers.apart }
@@ -107,12 +115,17 @@ posted_other count state by now mail (IsAnswered sender others) =
     let other = taken_other count state by (Marker sender) others now mail in
     record { exists = omega (arith, many, exists); apart = λ same. other.apart (sym same) }
 posted_other count state by now mail (IsToldOn sender others origin tells) =
-    let many = now.many in let below = tells.exists in record { exists = omega (arith, many, below); apart = tells.apart }
+    let many = now.many in
+    let below = tells.exists in record { exists = omega (arith, many, below); apart = tells.apart }
 posted_other count state by now mail (IsForwarded origin others h forwards) =
-    record { exists = (taken_other count state by (Probe origin) others now mail).exists; apart = λ same. forwards.apart (sym same) }
+    record {
+      exists = (taken_other count state by (Probe origin) others now mail).exists;
+      apart = λ same. forwards.apart (sym same);
+    }
 
 -- a request is served
-claim_holds : (count h : ℕ) (live : Bool) (request : Request) (hart : Hart) → Holds count h hart → Holds count h (with_claim live request hart)
+claim_holds : (count h : ℕ) (live : Bool) (request : Request) (hart : Hart) → Holds count h hart →
+    Holds count h (with_claim live request hart)
 claim_holds count h true request hart now = now
 claim_holds count h false request hart now = now
 
@@ -135,7 +148,9 @@ taken_holds count h (Marker sender) others hart is now =
     record {
       mail_is = mailbox_taken count h (Marker sender) others box;
       told_is = now.told_is;
-      upstream_is = others_included count h hart.upstream sender (oldest_other count h (Marker sender) others box) now.upstream_is;
+      upstream_is =
+          others_included count h hart.upstream sender (oldest_other count h (Marker sender) others box)
+          now.upstream_is;
     }
 taken_holds count h (Probe origin) others hart is now =
     let box = subst (IsMailbox count h) is now.mail_is in
@@ -150,9 +165,11 @@ started_holds : (count : ℕ) (state : ModelState) (by : ℕ) (start : Start) (h
     Holds count h (started state by start h (hart_of state h))
 started_holds count state by Nothing h where_it each = each h
 started_holds count state by (Places request place) h where_it each =
-    by_hart (Holds count h) h request.hart (record (hart_of state h) { raised = None }) (hart_of state h) (λ own. each h) (λ other. each h)
+    by_hart (Holds count h) h request.hart (record (hart_of state h) { raised = None }) (hart_of state h)
+    (λ own. each h) (λ other. each h)
 started_holds count state by (Serves request) h where_it each =
-    by_hart (Holds count h) h request.hart (served_hart state request (hart_of state h)) (bystander state request (hart_of state h))
+    by_hart (Holds count h) h request.hart (served_hart state request (hart_of state h))
+    (bystander state request (hart_of state h))
     (λ own. served_holds count state request h (hart_of state h) (each h))
     (λ other. record {
       mail_is = mailbox_without_probe count h (hart_of state h).mail request.hart (each h).mail_is;
@@ -161,28 +178,34 @@ started_holds count state by (Serves request) h where_it each =
     })
 started_holds count state by (Takes message others) h is each =
     by_hart (Holds count h) h by (having_taken message others (hart_of state h)) (hart_of state h)
-    (λ own. taken_holds count h message others (hart_of state h) (ap (λ k. (hart_of state k).mail) own ∙ is) (each h)) (λ other. each h)
+    (λ own. taken_holds count h message others (hart_of state h) (ap (λ k. (hart_of state k).mail) own ∙ is) (each h))
+    (λ other. each h)
 
 becomes_holds : (count : ℕ) (state : ModelState) (by : ℕ) (start : Start) (h : ℕ) {lost : Option ℕ} {hart : Hart} →
     Mailed count state →
     StartsWhere state by start → Becomes state by start h lost hart → Holds count h hart
 becomes_holds count state by start h now where_it (IsAbsent past) = now.each h
-becomes_holds count state by start h now where_it (Starts below) = started_holds count state by start h where_it now.each
+becomes_holds count state by start h now where_it (Starts below) =
+    started_holds count state by start h where_it now.each
 becomes_holds count state by start h now where_it (IsSent message lost hart sent before) =
     let held = becomes_holds count state by start h now where_it before in
-    mail_holds count h hart _ (mailbox_posted count h hart.mail message (posted_other count state by now where_it sent) held.mail_is) held
-becomes_holds count state by start h now where_it (IsLetGo head hart frees before) = becomes_holds count state by start h now where_it before
-becomes_holds count state by start h now where_it (Sees head lost hart defers before) = becomes_holds count state by start h now where_it before
+    mail_holds count h hart _
+    (mailbox_posted count h hart.mail message (posted_other count state by now where_it sent) held.mail_is) held
+becomes_holds count state by start h now where_it (IsLetGo head hart frees before) =
+    becomes_holds count state by start h now where_it before
+becomes_holds count state by start h now where_it (Sees head lost hart defers before) =
+    becomes_holds count state by start h now where_it before
 becomes_holds count state by start h now where_it (LosesIt winner stamp hart loses before) =
     beaten_holds count state.config.mode stamp h hart (becomes_holds count state by start h now where_it before)
 
 -- a step
-candidate_holds : (count h : ℕ) (pc : Option ℕ) (had_watch : Bool) (candidate : Option Swap) (hart : Hart) → Holds count h hart →
-    Holds count h (after_candidate pc had_watch candidate hart)
+candidate_holds : (count h : ℕ) (pc : Option ℕ) (had_watch : Bool) (candidate : Option Swap) (hart : Hart) →
+    Holds count h hart → Holds count h (after_candidate pc had_watch candidate hart)
 candidate_holds count h pc had_watch None hart now = now
 candidate_holds count h pc had_watch (Some swap) hart now = now
 
-deed_holds : (count : ℕ) (state : ModelState) (h : ℕ) (deed : Deed) (hart : Hart) → Holds count h hart → Holds count h (hart_after state h deed hart)
+deed_holds : (count : ℕ) (state : ModelState) (h : ℕ) (deed : Deed) (hart : Hart) → Holds count h hart →
+    Holds count h (hart_after state h deed hart)
 deed_holds count state h Rests hart now = now
 deed_holds count state h Waits hart now = now
 deed_holds count state h (Misses line need) hart now = now
@@ -197,21 +220,25 @@ deed_holds count state h (Continues armed) hart now = now
 deed_holds count state h (LetsGo armed) hart now = now
 
 -- each event
-next_holds : (count : ℕ) (state : ModelState) (event : Event) → Mailed count state → Each (Holds count) (next state event).state
+next_holds : (count : ℕ) (state : ModelState) (event : Event) → Mailed count state →
+    Each (Holds count) (next state event).state
 next_holds count state event now =
     let by = event.hart.number in
     by_event (λ turn. Each (Holds count) turn.state) state event
-    (λ step. step_keeps (Holds count) state by (λ deed does. deed_holds count state by deed (hart_of state by) (now.each by)) now.each)
+    (λ step. step_keeps (Holds count) state by
+    (λ deed does. deed_holds count state by deed (hart_of state by) (now.each by)) now.each)
     (λ turn done h. becomes_holds count state by done.start h now done.where_it (done.becomes h))
 
-next_mailed : (count : ℕ) (state : ModelState) (event : Event) → Mailed count state → Mailed count (next state event).state
+next_mailed : (count : ℕ) (state : ModelState) (event : Event) → Mailed count state →
+    Mailed count (next state event).state
 next_mailed count state event now =
     let many = now.many in
     record {
       many = next_count state event ∙ many;
       once = next_once state event now.once;
       below = subst (λ n. AreBelow n (next state event).state.order) many
-          (order_keeps state event (below_kept (length state.harts)) now.once.sound (subst (λ n. AreBelow n state.order) (sym many) now.below));
+          (order_keeps state event (below_kept (length state.harts)) now.once.sound
+          (subst (λ n. AreBelow n state.order) (sym many) now.below));
       each = next_holds count state event now;
     }
 
@@ -230,7 +257,8 @@ first_mailed program config = record {
       (record { mail = refl; told = refl; upstream = refl }) (record { mail = refl; told = refl; upstream = refl }) h);
 }
   where
-    at_first : (h : ℕ) → HasNoMessages (hart_of (begin program config) h) → Holds program.harts h (hart_of (begin program config) h)
+    at_first : (h : ℕ) → HasNoMessages (hart_of (begin program config) h) →
+        Holds program.harts h (hart_of (begin program config) h)
     at_first h none = record {
       mail_is = subst (IsMailbox program.harts h) (sym none.mail) (no_mail program.harts h);
       told_is = subst (IsSetOfOthers program.harts h) (sym none.told) (no_others program.harts h);
@@ -240,7 +268,8 @@ first_mailed program config = record {
 -- the laws
 pub messages_name_others_once : MessagesNameOthersOnce
 messages_name_others_once program config events h =
-    (kept_after (Mailed program.harts) (next_mailed program.harts) (begin program config) events (first_mailed program config)).each h
+    (kept_after (Mailed program.harts) (next_mailed program.harts) (begin program config) events
+    (first_mailed program config)).each h
 
 pub messages_are_fewer_than_harts : MessagesAreFewerThanHarts
 messages_are_fewer_than_harts program config events h exists =

@@ -5,7 +5,8 @@ use Rattle.residency.specs.Cache.{has_marks}
 use Rattle.residency.proofs.Laws.Unmarked.{unmarked-cleared, unmarked-empty, unmarked-touched}
 use Rattle.residency.proofs.Laws.MarkLemmas.{has_marks-committed}
 use Rattle.el_base.proofs.Laws.Cases.{some_none}
-use Rattle.el_model.specs.Deed.{Arms, Begins, Buffers, Commits, Continues, Deed, Elides, LetsGo, Misses, Rests, RollsBack, Runs, Waits, hart_after}
+use Rattle.el_model.specs.Deed.{Arms, Begins, Buffers, Commits, Continues, Deed, Elides, LetsGo, Misses, Rests}
+use Rattle.el_model.specs.Deed.{RollsBack, Runs, Waits, hart_after}
 use Rattle.el_model.specs.Plain.{after_candidate, candidate_of}
 use Rattle.el_model.specs.Serve.{with_claim}
 use Rattle.el_model.specs.State.{Hart, ModelState, Section, hart_of}
@@ -30,7 +31,8 @@ candidate_holds : (pc : Option ℕ) (had_watch : Bool) (candidate : Option Swap)
 candidate_holds pc had_watch None hart now = now
 candidate_holds pc had_watch (Some swap) hart now = now
 
-deed_holds : (state : ModelState) (h : ℕ) (deed : Deed) (hart : Hart) → Holds hart → Holds (hart_after state h deed hart)
+deed_holds : (state : ModelState) (h : ℕ) (deed : Deed) (hart : Hart) → Holds hart →
+    Holds (hart_after state h deed hart)
 deed_holds state h Rests hart now = now
 deed_holds state h Waits hart now = now
 deed_holds state h (Misses line need) hart now = now
@@ -62,8 +64,11 @@ kept = record {
     served = λ h state request hart now.
         claim_holds hart.section request _ refl
         (λ none unarmed.
-        unmarked-touched _ request.line (own_unmarked state.config.ways _ request.need hart.cache request.line (now none unarmed)));
-    bystander = λ h state request hart now none unarmed. others_unmarked _ request.need hart.cache request.line (now none unarmed);
+        unmarked-touched _ request.line
+        (own_unmarked state.config.ways _ request.need hart.cache request.line (now none unarmed)));
+    bystander =
+        λ h state request hart now none unarmed. others_unmarked _ request.need hart.cache request.line
+        (now none unarmed);
   };
   deed = λ state h deed does now. deed_holds state h deed (hart_of state h) now;
   new = λ sets none unarmed. unmarked-empty sets;

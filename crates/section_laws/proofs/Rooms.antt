@@ -1,5 +1,6 @@
 -- a line that has room in a cache still has, after a line left it or changed its letter
-use Rattle.std.proofs.Common.{◌≡◌, ◌∙◌, ℕ, suc, ◌<◌, ◌≤◌, ◌==◌, ◌||◌, ◌⊎◌, Bool, true, false, cond, List, [], ◌∷◌, length, Option, Some}
+use Rattle.std.proofs.Common.{◌≡◌, ◌∙◌, ℕ, suc, ◌<◌, ◌≤◌, ◌==◌, ◌||◌, ◌⊎◌, Bool, true, false, cond, List, [], ◌∷◌}
+use Rattle.std.proofs.Common.{length, Option, Some}
 use Rattle.std.proofs.Common.{is_some, refl, ap, sym, inl, inr, arith}
 use Rattle.std.specs.Prelude.{nat_lt, slice_index_or}
 use Rattle.std.proofs.lemmas.Bool.{cases_eq}
@@ -12,8 +13,8 @@ use Rattle.el_model.proofs.Laws.Tests.{by_test}
 use Rattle.moesi.specs.declared.letter.Letter.{Letter}
 
 -- room that a line has by one of three things: it is there, the set has a way to spare, or a line without bits
-room_by : (a b c d e f : Bool) → (a ≡ true → d ≡ true) → (b ≡ true → e ≡ true) → (c ≡ true → f ≡ true) → (a || b || c) ≡ true →
-    (d || e || f) ≡ true
+room_by : (a b c d e f : Bool) → (a ≡ true → d ≡ true) → (b ≡ true → e ≡ true) → (c ≡ true → f ≡ true) →
+    (a || b || c) ≡ true → (d || e || f) ≡ true
 room_by true b c d e f here fewer free is = let now = here refl in rw now refl
 room_by false true c d e f here fewer free is = let now = fewer refl in rw now (or_true d f)
   where
@@ -33,8 +34,14 @@ shorter [] line = inl refl
 shorter (way ∷ ways) line =
     by_test (λ left. (left ≡ way ∷ ways) ⊎ (length left < length (way ∷ ways))) (way.line == line) (dropped ways line)
     (way ∷ dropped ways line)
-    (λ here. elim (shorter ways line) [ inl same ↦ inr (let e = ap length same in omega (arith, e)) | inr fewer ↦ inr (omega (arith, fewer)) ])
-    (λ other. elim (shorter ways line) [ inl same ↦ inl (ap (λ left. way ∷ left) same) | inr fewer ↦ inr (omega (arith, fewer)) ])
+    (λ here. elim (shorter ways line) [
+      | inl same ↦ inr (let e = ap length same in omega (arith, e))
+      | inr fewer ↦ inr (omega (arith, fewer))
+    ])
+    (λ other. elim (shorter ways line) [
+      | inl same ↦ inl (ap (λ left. way ∷ left) same)
+      | inr fewer ↦ inr (omega (arith, fewer))
+    ])
 
 room_dropped : (ways : ℕ) (set : List Way) (line l : ℕ) → length set ≤ ways → room_in ways set l ≡ true →
     room_in ways (dropped set line) l ≡ true
@@ -45,10 +52,12 @@ room_dropped ways set line l within room =
     ]
 
 -- another letter changes no line and no bit
-letter_length : (letter : Letter) (set : List Way) (line : ℕ) → length (changed_in (with_letter letter) set line) ≡ length set
+letter_length : (letter : Letter) (set : List Way) (line : ℕ) →
+    length (changed_in (with_letter letter) set line) ≡ length set
 letter_length letter [] line = refl
 letter_length letter (way ∷ ways) line =
-    by_test (λ set. length set ≡ length (way ∷ ways)) (way.line == line) _ _ (λ here. ap suc (letter_length letter ways line))
+    by_test (λ set. length set ≡ length (way ∷ ways)) (way.line == line) _ _
+    (λ here. ap suc (letter_length letter ways line))
     (λ other. ap suc (letter_length letter ways line))
 
 letter_here : (letter : Letter) (set : List Way) (line l : ℕ) → is_some (way_in set l) ≡ true →
@@ -59,8 +68,8 @@ letter_here letter (way ∷ ways) line l here =
     (λ same. found (way.line == l) (with_letter letter way) way _ (way_in ways l) (letter_here letter ways line l) here)
     (λ other. found (way.line == l) way way _ (way_in ways l) (letter_here letter ways line l) here)
   where
-    found : (test : Bool) (a b : Way) (x y : Option Way) → (is_some y ≡ true → is_some x ≡ true) → is_some (cond test (Some b) y) ≡ true →
-        is_some (cond test (Some a) x) ≡ true
+    found : (test : Bool) (a b : Way) (x y : Option Way) → (is_some y ≡ true → is_some x ≡ true) →
+        is_some (cond test (Some b) y) ≡ true → is_some (cond test (Some a) x) ≡ true
     found true a b x y rest is = refl
     found false a b x y rest is = rest is
 
@@ -79,7 +88,8 @@ letter_free letter (way ∷ ways) line free =
 room_letter : (letter : Letter) (ways : ℕ) (set : List Way) (line l : ℕ) → room_in ways set l ≡ true →
     room_in ways (changed_in (with_letter letter) set line) l ≡ true
 room_letter letter ways set line l room =
-    room_by _ _ _ _ _ _ (letter_here letter set line l) (λ fewer. ap (λ n. nat_lt n ways) (letter_length letter set line) ∙ fewer)
+    room_by _ _ _ _ _ _ (letter_here letter set line l)
+    (λ fewer. ap (λ n. nat_lt n ways) (letter_length letter set line) ∙ fewer)
     (letter_free letter set line) room
 
 -- the same of a cache
@@ -93,12 +103,12 @@ in_set ways cache line l set some kept room =
       | inr other ↦ ap (λ s. room_in ways s l) (set_of-with_set_other cache line l set other) ∙ room
     ]
 
-pub room_without_line : (ways : ℕ) (cache : List (List Way)) (line l : ℕ) → IsWellFormed ways cache → room_of ways cache l ≡ true →
-    room_of ways (without_line cache line) l ≡ true
+pub room_without_line : (ways : ℕ) (cache : List (List Way)) (line l : ℕ) → IsWellFormed ways cache →
+    room_of ways cache l ≡ true → room_of ways (without_line cache line) l ≡ true
 room_without_line ways cache line l well room =
     in_set ways cache line l _ well.some_set (room_dropped ways (set_of cache line) line l (well.within line)) room
 
-pub room_lettered : (ways : ℕ) (cache : List (List Way)) (line l : ℕ) (letter : Letter) → IsWellFormed ways cache → room_of ways cache l ≡ true →
-    room_of ways (lettered cache line letter) l ≡ true
+pub room_lettered : (ways : ℕ) (cache : List (List Way)) (line l : ℕ) (letter : Letter) → IsWellFormed ways cache →
+    room_of ways cache l ≡ true → room_of ways (lettered cache line letter) l ≡ true
 room_lettered ways cache line l letter well room =
     in_set ways cache line l _ well.some_set (room_letter letter ways (set_of cache line) line l) room

@@ -2,7 +2,8 @@
 use Rattle.std.proofs.Common.{◌≡◌, ◌<◌, ◌+◌, ◌==◌, ℕ, Bool, true, false, Option, None, Some, is_some, arith}
 use Rattle.std.proofs.lemmas.Bool.Decides.{nat_tests}
 use Rattle.bus_order.specs.Order.{Request}
-use Rattle.el_model.specs.Deed.{Arms, Begins, Buffers, Commits, Continues, Deed, Elides, LetsGo, Misses, Rests, RollsBack, Runs, Waits, hart_after}
+use Rattle.el_model.specs.Deed.{Arms, Begins, Buffers, Commits, Continues, Deed, Elides, LetsGo, Misses, Rests}
+use Rattle.el_model.specs.Deed.{RollsBack, Runs, Waits, hart_after}
 use Rattle.el_model.specs.Plain.{after_candidate, candidate_of}
 use Rattle.el_model.specs.RollBack.{most_tries}
 use Rattle.el_model.specs.Serve.{with_claim}
@@ -30,7 +31,8 @@ candidate_holds : (pc : Option ℕ) (had_watch : Bool) (candidate : Option Swap)
 candidate_holds pc had_watch None hart now = now
 candidate_holds pc had_watch (Some swap) hart now = now
 
-deed_holds : (state : ModelState) (h : ℕ) (deed : Deed) (hart : Hart) → Holds hart → Holds (hart_after state h deed hart)
+deed_holds : (state : ModelState) (h : ℕ) (deed : Deed) (hart : Hart) → Holds hart →
+    Holds (hart_after state h deed hart)
 deed_holds state h Rests hart now = now
 deed_holds state h Waits hart now = now
 deed_holds state h (Misses line need) hart now = now

@@ -12,14 +12,15 @@ use Rattle.elf_image.specs.Program.{Program}
 use Rattle.el_model.specs.Next.{after}
 use Rattle.el_model.specs.State.{ModelState, cache_of, ordered_of, raised_of}
 
--- what is said of a configuration and a state holds of each state that can be reached, from a program with as many harts as the
--- configuration has, where that is in range
+-- what is said of a configuration and a state holds of each state that can be reached, from a program with as many
+-- harts as the configuration has, where that is in range
 abbrev AlwaysInRange : (Config → ModelState → Type 0) → Type 0
 AlwaysInRange P =
     (program : Program) (config : Config) (events : List Event) → program.harts ≡ config.harts → IsInRange config →
     P config (after program config events)
 
--- a cache of as many sets as configured, none of which has more lines than ways, nor a line twice; a line is in the set of its number
+-- a cache of as many sets as configured, none of which has more lines than ways, nor a line twice; a
+-- line is in the set of its number
 pub record IsShaped (config : Config) (cache : List (List Way)) : Type 0 where
   pub sets : length cache ≡ config.sets
   pub well_formed : IsWellFormed config.ways cache
@@ -36,7 +37,8 @@ WaitsWith state h request = (raised_of state h ≡ Some request) ⊎ (ordered_of
 abbrev pub WaitingLinesHaveRoom : Type 0
 WaitingLinesHaveRoom =
     AlwaysInRange (λ config state.
-    (h : ℕ) (request : Request) → WaitsWith state h request → room_of config.ways (cache_of state h) request.line ≡ true)
+    (h : ℕ) (request : Request) → WaitsWith state h request →
+    room_of config.ways (cache_of state h) request.line ≡ true)
 
 -- a section has written no more lines than configured
 abbrev pub WrittenLinesAreFew : Type 0

@@ -7,8 +7,8 @@ use Rattle.el_model.specs.Armed.{most_armed}
 use Rattle.el_model.specs.RollBack.{most_tries}
 use Rattle.el_model.specs.State.{Armed, Section}
 
--- without a live or armed section no line has an access bit; a bit stands on the way of a line, so it is always on a line that is
--- resident
+-- without a live or armed section no line has an access bit; a bit stands on the way of a line, so it is
+-- always on a line that is resident
 abbrev pub HasBitsOnlyInside : Option Section → Option Armed → List (List Way) → Type 0
 HasBitsOnlyInside section armed cache = section ≡ None → armed ≡ None → has_marks cache ≡ false
 

@@ -22,7 +22,8 @@ Always P = (program : Program) (config : Config) (events : List Event) → P (af
 
 -- only live and armed sections have bits
 abbrev pub OnlyLiveSectionsHaveBits : Type 0
-OnlyLiveSectionsHaveBits = Always (λ state. (h : ℕ) → HasBitsOnlyInside (section_of state h) (armed_of state h) (cache_of state h))
+OnlyLiveSectionsHaveBits =
+    Always (λ state. (h : ℕ) → HasBitsOnlyInside (section_of state h) (armed_of state h) (cache_of state h))
 
 -- the count of sections lost in a row stays below four
 abbrev pub TriesStayBelowFour : Type 0
@@ -32,8 +33,8 @@ TriesStayBelowFour = Always (λ state. (h : ℕ) → HasTriesLeft (hart_of state
 abbrev pub CountersStayInRange : Type 0
 CountersStayInRange = Always (λ state. (h : ℕ) → AreCounters (hart_of state h).predictor.counters)
 
--- a hart has at most one of a raised request, an ordered one and a hold, and none where it has stopped; a raised request is its own
--- hart's, a hart that holds a line has no section, and a hart that has stopped neither
+-- a hart has at most one of a raised request, an ordered one and a hold, and none where it has stopped; a raised
+-- request is its own hart's, a hart that holds a line has no section, and a hart that has stopped neither
 abbrev pub EachHartWaitsForOne : Type 0
 EachHartWaitsForOne =
     Always (λ state.
@@ -72,26 +73,29 @@ NoSetHasALineTwice = Always (λ state. (h : ℕ) → AreOnce (cache_of state h))
 -- an armed section has one bit alone, the read bit of its word's line, which is resident
 abbrev pub ArmedSectionsHaveOneReadBit : Type 0
 ArmedSectionsHaveOneReadBit =
-    Always (λ state. (h : ℕ) (armed : Armed) → armed_of state h ≡ Some armed → HasOneReadBit armed.word (cache_of state h))
+    Always (λ state. (h : ℕ) (armed : Armed) → armed_of state h ≡ Some armed →
+    HasOneReadBit armed.word (cache_of state h))
 
 -- an armed hart runs, and has no request, no hold and no live section
 abbrev pub ArmedHartsWaitForNothing : Type 0
 ArmedHartsWaitForNothing =
     Always (λ state.
     (h : ℕ) (armed : Armed) → armed_of state h ≡ Some armed →
-    RunsWithNothing (status_of state.committed h) (ordered_of state h) (hart_of state h).section (hart_of state h).raised
+    RunsWithNothing (status_of state.committed h) (ordered_of state h) (hart_of state h).section
+    (hart_of state h).raised
     (hart_of state h).held_line)
 
 -- no hart has a live and an armed section
 abbrev pub NoHartIsLiveAndArmed : Type 0
-NoHartIsLiveAndArmed = Always (λ state. (h : ℕ) (armed : Armed) → armed_of state h ≡ Some armed → section_of state h ≡ None)
+NoHartIsLiveAndArmed =
+    Always (λ state. (h : ℕ) (armed : Armed) → armed_of state h ≡ Some armed → section_of state h ≡ None)
 
 -- where the first request of a line is to write, no armed hart but its own has a bit on the line
 abbrev pub OrderedWritesMeetNoArmedHart : Type 0
 OrderedWritesMeetNoArmedHart =
     Always (λ state.
-    (line : ℕ) (head : Request) (h : ℕ) (armed : Armed) → head_of state line ≡ Some head → head.need ≡ Write → h ≢ head.hart →
-    armed_of state h ≡ Some armed → has_bit (cache_of state h) line ≡ false)
+    (line : ℕ) (head : Request) (h : ℕ) (armed : Armed) → head_of state line ≡ Some head → head.need ≡ Write →
+    h ≢ head.hart → armed_of state h ≡ Some armed → has_bit (cache_of state h) line ≡ false)
 
 -- in a configuration in range, an armed section has from 1 to 15 instructions, and fewer than a section may have
 abbrev pub ArmedSectionsAreShort : Type 0

@@ -37,7 +37,8 @@ pub record NamesOthersOnce (count h : ℕ) (mail : List Message) (told upstream 
 abbrev pub MessagesNameOthersOnce : Type 0
 MessagesNameOthersOnce =
     (program : Program) (config : Config) (events : List Event) (h : ℕ) →
-    NamesOthersOnce program.harts h (hart_of (after program config events) h).mail (hart_of (after program config events) h).told
+    NamesOthersOnce program.harts h (hart_of (after program config events) h).mail
+    (hart_of (after program config events) h).told
     (hart_of (after program config events) h).upstream
 
 -- the senders of the markers in a mailbox, and the origins of the probes
@@ -61,5 +62,6 @@ pub record AreFewerThan (count : ℕ) (mail : List Message) (told upstream : Lis
 abbrev pub MessagesAreFewerThanHarts : Type 0
 MessagesAreFewerThanHarts =
     (program : Program) (config : Config) (events : List Event) (h : ℕ) → h < program.harts →
-    AreFewerThan program.harts (hart_of (after program config events) h).mail (hart_of (after program config events) h).told
+    AreFewerThan program.harts (hart_of (after program config events) h).mail
+    (hart_of (after program config events) h).told
     (hart_of (after program config events) h).upstream

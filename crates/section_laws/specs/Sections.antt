@@ -1,5 +1,6 @@
 -- what becomes of sections, as it is told
-use Rattle.std.specs.Prelude.{ℕ, ◌≡◌, ◌≢◌, ◌==◌, ◌&&◌, ◌+◌, Bool, true, false, List, [], ◌∷◌, is_some, length, ◌≤◌, if◌then◌else◌}
+use Rattle.std.specs.Prelude.{ℕ, ◌≡◌, ◌≢◌, ◌==◌, ◌&&◌, ◌+◌, Bool, true, false, List, [], ◌∷◌, is_some, length, ◌≤◌}
+use Rattle.std.specs.Prelude.{if◌then◌else◌}
 use Rattle.chronicle.specs.Serial.{serial}
 use Rattle.el_base.specs.Config.{IsInRange}
 use Rattle.el_base.specs.declared.config.Config.{Config}
@@ -8,7 +9,8 @@ use Rattle.el_base.specs.declared.events.Event.{Event}
 use Rattle.el_base.specs.declared.events.Kind.TheVariants as kinds
 use Rattle.el_base.specs.declared.outcomes.Cause.{Cause}
 use Rattle.el_base.specs.declared.outcomes.Outcome.{Outcome}
-use Rattle.el_base.specs.declared.outcomes.Outcome.TheVariants.{Stalled, Missed, Began, Buffered, Committed, RolledBack, Ran}
+use Rattle.el_base.specs.declared.outcomes.Outcome.TheVariants.{Stalled, Missed, Began, Buffered, Committed, RolledBack}
+use Rattle.el_base.specs.declared.outcomes.Outcome.TheVariants.{Ran}
 use Rattle.elf_image.specs.Program.{Program}
 use Rattle.el_base.specs.Winners.{winner_over}
 use Rattle.el_model.specs.Next.{after, entries_from, next, state_after}
@@ -28,7 +30,8 @@ IsOfSection _ = ⊥
 abbrev pub SectionStepsAreOfFiveKinds : Type 0
 SectionStepsAreOfFiveKinds =
     (program : Program) (config : Config) (events : List Event) (event : Event) → event.kind ≡ kinds.Step →
-    is_live (after program config events) event.hart.number ≡ true → IsOfSection (next (after program config events) event).outcome
+    is_live (after program config events) event.hart.number ≡ true →
+    IsOfSection (next (after program config events) event).outcome
 
 -- in this event a hart runs a candidate for an acquire outside of a section
 pub record RunsCandidate (state : ModelState) (h : ℕ) (event : Event) : Type 0 where
@@ -43,10 +46,12 @@ NeverRunsCandidate state h [] = Unit {0}
 NeverRunsCandidate state h (event ∷ events) =
     (RunsCandidate state h event → ⊥) × NeverRunsCandidate (next state event).state h events
 
--- after a rollback by the hart itself, it begins no section until it has run a candidate for an acquire outside of a section
+-- after a rollback by the hart itself, it begins no section until it has run a candidate for
+-- an acquire outside of a section
 abbrev pub NoneBeginsAfterRollback : Type 0
 NoneBeginsAfterRollback =
-    (state : ModelState) (event later : Event) (events : List Event) (cause : Cause) → (next state event).outcome ≡ RolledBack cause →
+    (state : ModelState) (event later : Event) (events : List Event) (cause : Cause) →
+    (next state event).outcome ≡ RolledBack cause →
     NeverRunsCandidate (next state event).state event.hart.number events → later.hart.number ≡ event.hart.number →
     (next (state_after (next state event).state events) later).outcome ≢ Began
 
@@ -84,8 +89,8 @@ count_of test (entry ∷ entries) = (if test entry then 1 else 0) + count_of tes
 -- each section that a hart began has committed, was rolled back, or was lost, but for the one that is live
 abbrev pub BegunSectionsAreAccountedFor : Type 0
 BegunSectionsAreAccountedFor =
-    (program : Program) (config : Config) (events : List Event) (h : ℕ) → program.harts ≡ config.harts → IsInRange config →
-    count_of (begins h) (entries_from (begin program config) events)
+    (program : Program) (config : Config) (events : List Event) (h : ℕ) → program.harts ≡ config.harts →
+    IsInRange config → count_of (begins h) (entries_from (begin program config) events)
     ≡ count_of (commits h) (entries_from (begin program config) events)
     + count_of (rolls_back h) (entries_from (begin program config) events)
     + count_of (loses h) (entries_from (begin program config) events)

@@ -6,7 +6,8 @@ use Rattle.rv_alu.specs.declared.view.HartStatus.{HartStatus}
 use Rattle.rv_alu.specs.declared.view.HartStatus.TheVariants.{Running}
 
 -- nothing is waited for, and no section is live
-pub record HasNothing (ordered : Option Request) (section : Option Section) (raised : Option Request) (held : Option ℕ) : Type 0 where
+pub record HasNothing (ordered : Option Request) (section : Option Section) (raised : Option Request)
+    (held : Option ℕ) : Type 0 where
   pub no_section : section ≡ None
   pub not_raised : raised ≡ None
   pub not_ordered : ordered ≡ None
@@ -19,7 +20,8 @@ pub record OnlyHolds (ordered : Option Request) (section : Option Section) (rais
   pub not_ordered : ordered ≡ None
 
 -- of a hart, with its status and its ordered request
-pub record WaitsForOne (h : ℕ) (status : HartStatus) (ordered : Option Request) (section : Option Section) (raised : Option Request)
+pub record WaitsForOne (h : ℕ) (status : HartStatus) (ordered : Option Request) (section : Option Section)
+    (raised : Option Request)
     (held : Option ℕ) : Type 0 where
   -- a raised request is its hart's own
   pub own : (request : Request) → raised ≡ Some request → request.hart ≡ h
@@ -31,7 +33,8 @@ pub record WaitsForOne (h : ℕ) (status : HartStatus) (ordered : Option Request
   pub stopped : status ≢ Running → HasNothing ordered section raised held
 
 -- a hart that runs, and waits for nothing and has no live section
-pub record RunsWithNothing (status : HartStatus) (ordered : Option Request) (section : Option Section) (raised : Option Request)
+pub record RunsWithNothing (status : HartStatus) (ordered : Option Request) (section : Option Section)
+    (raised : Option Request)
     (held : Option ℕ) : Type 0 where
   pub running : status ≡ Running
   pub nothing : HasNothing ordered section raised held

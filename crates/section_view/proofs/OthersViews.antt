@@ -1,5 +1,7 @@
--- the views of other harts after a hart's own steps: they have lost their reservations of words on the lines that it wrote
-use Rattle.std.proofs.Common.{◌≡◌, ◌≢◌, ◌<◌, ◌∙◌, ◌||◌, ◌==◌, ℕ, zero, suc, Bool, true, false, Option, None, Some, arith, refl, ap, sym, if◌then◌else◌}
+-- the views of other harts after a hart's own steps: they have lost their reservations of
+-- words on the lines that it wrote
+use Rattle.std.proofs.Common.{◌≡◌, ◌≢◌, ◌<◌, ◌∙◌, ◌||◌, ◌==◌, ℕ, zero, suc, Bool, true, false, Option, None, Some}
+use Rattle.std.proofs.Common.{arith, refl, ap, sym, if◌then◌else◌}
 use Rattle.std.proofs.lemmas.Bool.{or_left, or_right}
 use Rattle.el_base.specs.Line.{line_number}
 use Rattle.el_base.proofs.Laws.Tests.{number_of_test, own_test}
@@ -23,7 +25,8 @@ is_line (Some written) line = line == written
 -- whether one of the first steps wrote a line
 abbrev pub has_written : FlatState → ℕ → ℕ → ℕ → Bool
 has_written state h zero line = false
-has_written state h (suc n) line = is_line (written_line (footprint_of state h)) line || has_written (flat state h) h n line
+has_written state h (suc n) line =
+    is_line (written_line (footprint_of state h)) line || has_written (flat state h) h n line
 
 line_was : (written : Option ℕ) (line : ℕ) → is_line written line ≡ true → written ≡ Some line
 line_was None line is = absurd (cc)
@@ -33,17 +36,19 @@ is_line_was : (written : Option ℕ) (line : ℕ) → written ≡ Some line → 
 is_line_was written line is = ap (λ written. is_line written line) is ∙ own_test line
 
 later : (state : FlatState) (h n line : ℕ) → WroteLine (flat state h) h n line → WroteLine state h (suc n) line
-later state h n line wrote = let before = wrote.before in record { step = suc wrote.step; before = omega arith; writes = wrote.writes }
+later state h n line wrote = let before =
+    wrote.before in record { step = suc wrote.step; before = omega arith; writes = wrote.writes }
 
 pub written_was : (state : FlatState) (h n line : ℕ) → has_written state h n line ≡ true → WroteLine state h n line
 written_was state h zero line is = absurd (cc)
 written_was state h (suc n) line is =
     or_cases (is_line (written_line (footprint_of state h)) line) (has_written (flat state h) h n line) is
-    (λ first. record { step = 0; before = omega arith; writes = line_was (written_line (footprint_of state h)) line first })
+    (λ first.
+    record { step = 0; before = omega arith; writes = line_was (written_line (footprint_of state h)) line first })
     (λ rest. later state h n line (written_was (flat state h) h n line rest))
 
-pub was_written_at : (state : FlatState) (h n step line : ℕ) → step < n → written_line (footprint_of (alone state h step) h) ≡ Some line →
-    has_written state h n line ≡ true
+pub was_written_at : (state : FlatState) (h n step line : ℕ) → step < n →
+    written_line (footprint_of (alone state h step) h) ≡ Some line → has_written state h n line ≡ true
 was_written_at state h zero step line less is = absurd (omega arith)
 was_written_at state h (suc n) zero line less is =
     or_left (is_line (written_line (footprint_of state h)) line) (has_written (flat state h) h n line)
@@ -74,7 +79,8 @@ reserved_same left right same (Some word) = ap (λ test. if test then None else 
 
 pub unreserved_same : (left right : ℕ → Bool) → ((line : ℕ) → left line ≡ right line) → (view : HartView) →
     view_unreserved_on left view ≡ view_unreserved_on right view
-unreserved_same left right same view = ap (λ reserved. record view { reserved = reserved }) (reserved_same left right same view.reserved)
+unreserved_same left right same view =
+    ap (λ reserved. record view { reserved = reserved }) (reserved_same left right same view.reserved)
 
 none_reserved : (reserved : Option ℕ) → reserved_beside (λ line. false) reserved ≡ reserved
 none_reserved None = refl
@@ -84,19 +90,25 @@ none_unreserved : (view : HartView) → view ≡ view_unreserved_on (λ line. fa
 none_unreserved view = ap (λ reserved. record view { reserved = reserved }) (sym (none_reserved view.reserved))
 
 first_off : (written : ℕ) (rest : ℕ → Bool) (word : ℕ) (test : Bool) → (line_number word == written) ≡ test →
-    reserved_beside rest (if test then None else Some word) ≡ (if test || rest (line_number word) then None else Some word)
+    reserved_beside rest (if test then None else Some word)
+    ≡ (if test || rest (line_number word) then None else Some word)
 first_off written rest word true is = refl
 first_off written rest word false is = refl
 
 off_by : (access : Access) (rest : ℕ → Bool) (reserved : Option ℕ) (view : HartView) → view.reserved ≡ reserved →
-    reserved_beside rest (seen_after access view).reserved ≡ reserved_beside (λ line. is_line (written_line access) line || rest line) reserved
+    reserved_beside rest (seen_after access view).reserved
+    ≡ reserved_beside (λ line. is_line (written_line access) line || rest line) reserved
 off_by (Write from len) rest None view is = rw is refl
 off_by (Write from len) rest (Some word) view is =
     rw is (first_off (line_number from) rest word (line_number word == line_number from) refl)
-off_by (Read from len) rest reserved view is = ap (reserved_beside rest) is ∙ reserved_same rest (λ line. false || rest line) (λ line. refl) reserved
-off_by Nothing rest reserved view is = ap (reserved_beside rest) is ∙ reserved_same rest (λ line. false || rest line) (λ line. refl) reserved
-off_by (Trap cause) rest reserved view is = ap (reserved_beside rest) is ∙ reserved_same rest (λ line. false || rest line) (λ line. refl) reserved
-off_by (Exit code) rest reserved view is = ap (reserved_beside rest) is ∙ reserved_same rest (λ line. false || rest line) (λ line. refl) reserved
+off_by (Read from len) rest reserved view is =
+    ap (reserved_beside rest) is ∙ reserved_same rest (λ line. false || rest line) (λ line. refl) reserved
+off_by Nothing rest reserved view is =
+    ap (reserved_beside rest) is ∙ reserved_same rest (λ line. false || rest line) (λ line. refl) reserved
+off_by (Trap cause) rest reserved view is =
+    ap (reserved_beside rest) is ∙ reserved_same rest (λ line. false || rest line) (λ line. refl) reserved
+off_by (Exit code) rest reserved view is =
+    ap (reserved_beside rest) is ∙ reserved_same rest (λ line. false || rest line) (λ line. refl) reserved
 
 but_reserved : (access : Access) (view : HartView) (reserved : Option ℕ) →
     record (seen_after access view) { reserved = reserved } ≡ record view { reserved = reserved }

@@ -29,8 +29,10 @@ lr_acts word rd rs1 aq rl view span room from is reads =
     rw is (tested (address % 4 == 0) (holds span address 4) address _ _ (rw is at reads))
   where
     tested : (b c : Bool) (address misaligned outside : ℕ) →
-        footprint (if b then (if c then actions.LoadReserved rd address else actions.Trap outside) else actions.Trap misaligned) ≡ Read from 4 →
-        (if b then (if c then actions.LoadReserved rd address else actions.Trap outside) else actions.Trap misaligned) ≡ actions.LoadReserved rd from
+        footprint (if b then (if c then actions.LoadReserved rd address else actions.Trap outside)
+        else actions.Trap misaligned) ≡ Read from 4 →
+        (if b then (if c then actions.LoadReserved rd address else actions.Trap outside) else actions.Trap misaligned)
+        ≡ actions.LoadReserved rd from
     tested true true address misaligned outside h = cc
     tested true false address misaligned outside h = absurd (cc)
     tested false c address misaligned outside h = absurd (cc)
@@ -42,13 +44,17 @@ unfolding action_of
 sc_acts word rd rs1 rs2 aq rl view span room from is writes =
     let address : ℕ = get view.regs rs1.number in
     rw is
-    (tested (address % 4 == 0) (holds span address 4) (has_reserved_of view.reserved address) address (get view.regs rs2.number) _ _
+    (tested (address % 4 == 0) (holds span address 4) (has_reserved_of view.reserved address) address
+    (get view.regs rs2.number) _ _
     (rw is at writes))
   where
     tested : (b c d : Bool) (address value misaligned outside : ℕ) →
-        footprint (if b then (if c then (if d then actions.StoreConditional rd address value else actions.Fail rd) else actions.Trap outside)
+        footprint
+        (if b then (if c then (if d then actions.StoreConditional rd address value else actions.Fail rd)
+        else actions.Trap outside)
         else actions.Trap misaligned) ≡ Write from 4 →
-        (if b then (if c then (if d then actions.StoreConditional rd address value else actions.Fail rd) else actions.Trap outside)
+        (if b then (if c then (if d then actions.StoreConditional rd address value else actions.Fail rd)
+        else actions.Trap outside)
         else actions.Trap misaligned) ≡ actions.StoreConditional rd from value
     tested true true true address value misaligned outside h = cc
     tested true true false address value misaligned outside h = absurd (cc)
@@ -57,14 +63,15 @@ sc_acts word rd rs1 rs2 aq rl view span room from is writes =
 
 -- of the instruction that comes next
 reserve_acts : (found : Option ℕ) (state : FlatState) (view : HartView) (rd rs1 : Reg) (aq rl : Bool) (from : ℕ) →
-    code_word state.code view.pc ≡ found → insn_at found ≡ Some (insns.Lr rd rs1 aq rl) → touched_by state view ≡ Read from 4 →
-    flat_step.action_of state view ≡ actions.LoadReserved rd from
+    code_word state.code view.pc ≡ found → insn_at found ≡ Some (insns.Lr rd rs1 aq rl) →
+    touched_by state view ≡ Read from 4 → flat_step.action_of state view ≡ actions.LoadReserved rd from
 reserve_acts None state view rd rs1 aq rl from here is reads = absurd (cc)
 reserve_acts (Some word) state view rd rs1 aq rl from here is reads =
     rw here (lr_acts word rd rs1 aq rl view (span_of state) (room_of state) from is (rw here at reads))
 
-conditional_acts : (found : Option ℕ) (state : FlatState) (view : HartView) (rd rs1 rs2 : Reg) (aq rl : Bool) (from : ℕ) →
-    code_word state.code view.pc ≡ found → insn_at found ≡ Some (insns.Sc rd rs1 rs2 aq rl) → touched_by state view ≡ Write from 4 →
+conditional_acts : (found : Option ℕ) (state : FlatState) (view : HartView) (rd rs1 rs2 : Reg) (aq rl : Bool)
+    (from : ℕ) → code_word state.code view.pc ≡ found → insn_at found ≡ Some (insns.Sc rd rs1 rs2 aq rl) →
+    touched_by state view ≡ Write from 4 →
     flat_step.action_of state view ≡ actions.StoreConditional rd from (get view.regs rs2.number)
 conditional_acts None state view rd rs1 rs2 aq rl from here is writes = absurd (cc)
 conditional_acts (Some word) state view rd rs1 rs2 aq rl from here is writes =
@@ -73,7 +80,8 @@ conditional_acts (Some word) state view rd rs1 rs2 aq rl from here is writes =
 pub reserves_act : ReservesAct
 reserves_act committed h word rd rs1 aq rl is means =
     let view = view_of committed h in
-    reserve_acts (code_word committed.code view.pc) committed view rd rs1 aq rl word refl means (reserves committed h word is).reads
+    reserve_acts (code_word committed.code view.pc) committed view rd rs1 aq rl word refl means
+    (reserves committed h word is).reads
 
 pub conditionals_act : ConditionalsAct
 conditionals_act committed h swap rd rs1 rs2 aq rl is means =

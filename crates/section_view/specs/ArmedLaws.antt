@@ -25,13 +25,15 @@ use Rattle.section_view.specs.Laws.{ComesTo}
 abbrev pub reserved_view : HartView → ℕ → ℕ → ℕ → HartView
 reserved_view view rd word old = record (put_of view rd old) { reserved = Some word }
 
--- where a hart comes to an LR, the view after it, with the value of its word, keeps the run of the section that arms there
+-- where a hart comes to an LR, the view after it, with the value of its word, keeps the run
+-- of the section that arms there
 abbrev pub ArmedSectionsBegin : Type 0
 ArmedSectionsBegin =
     (committed : FlatState) (h word old : ℕ) (rd : Reg) → status_of committed h ≡ Running →
     action_of committed (view_of committed h) ≡ actions.LoadReserved rd word →
     old ≡ loaded (byte_in committed.base committed.bytes) word 4 →
-    KeepsArmed committed h (record { count = 1; word = word }) old (reserved_view (view_of committed h) rd.number word old)
+    KeepsArmed committed h (record { count = 1; word = word }) old
+    (reserved_view (view_of committed h) rd.number word old)
 
 -- what comes next in an armed section is what its view comes to in what is committed
 abbrev pub ArmedSectionsComeTo : Type 0
@@ -43,23 +45,27 @@ ArmedSectionsComeTo =
 -- an armed section goes on by a quiet instruction, over any bytes, since it touches none
 abbrev pub ArmedSectionsGoOn : Type 0
 ArmedSectionsGoOn =
-    (committed : FlatState) (h : ℕ) (cache : List (List Way)) (armed : Armed) (old : ℕ) (view : HartView) (under : ℕ → ℕ) →
-    IsArmedRun committed h cache armed → KeepsArmed committed h armed old view → is_quiet (alone committed h armed.count) h ≡ true →
-    KeepsArmed committed h (record armed { count = armed.count + 1 }) old (view_after (perform (action_of committed view) view under) view)
+    (committed : FlatState) (h : ℕ) (cache : List (List Way)) (armed : Armed) (old : ℕ) (view : HartView)
+    (under : ℕ → ℕ) → IsArmedRun committed h cache armed → KeepsArmed committed h armed old view →
+    is_quiet (alone committed h armed.count) h ≡ true →
+    KeepsArmed committed h (record armed { count = armed.count + 1 }) old
+    (view_after (perform (action_of committed view) view under) view)
 
 -- the live section that an armed one becomes at its SC
 abbrev pub elided : Armed → ℕ → ℕ → Section
 elided armed old new = record { count = armed.count + 1; word = armed.word; old = old; new = new }
 
--- an armed section's SC is elided: it finds the value that is kept, and the view after it and a hold of nothing keep the run of the
--- live section
-pub record IsElided (committed : FlatState) (h : ℕ) (armed : Armed) (old : ℕ) (swap : Swap) (view : HartView) : Type 0 where
+-- an armed section's SC is elided: it finds the value that is kept, and the view after it and a hold of nothing
+-- keep the run of the live section
+pub record IsElided (committed : FlatState) (h : ℕ) (armed : Armed) (old : ℕ) (swap : Swap)
+    (view : HartView) : Type 0 where
   pub found : swap.old ≡ old
   pub keeps : KeepsRun committed h (elided armed old swap.new) view []
 
 abbrev pub ArmedSectionsElide : Type 0
 ArmedSectionsElide =
-    (committed : FlatState) (h : ℕ) (cache : List (List Way)) (armed : Armed) (old : ℕ) (view : HartView) (swap : Swap) (rd : Reg)
+    (committed : FlatState) (h : ℕ) (cache : List (List Way)) (armed : Armed) (old : ℕ) (view : HartView)
+    (swap : Swap) (rd : Reg)
     (address value : ℕ) → IsArmedRun committed h cache armed → KeepsArmed committed h armed old view →
     next_conditional (alone committed h armed.count) h ≡ Some swap → swap.word ≡ armed.word →
     action_of committed view ≡ actions.StoreConditional rd address value →
@@ -69,7 +75,8 @@ ArmedSectionsElide =
 abbrev pub KeptArmedRunsSurvive : Type 0
 KeptArmedRunsSurvive =
     (h : ℕ) (cache : List (List Way)) (armed : Armed) (old new : FlatState) (value : ℕ) (view : HartView) →
-    IsArmedRun old h cache armed → IsChangeBeside h cache old new → KeepsArmed old h armed value view → KeepsArmed new h armed value view
+    IsArmedRun old h cache armed → IsChangeBeside h cache old new → KeepsArmed old h armed value view →
+    KeepsArmed new h armed value view
 
 -- the action of an LR that comes next is that of its register
 abbrev pub ReservesAct : Type 0
@@ -81,6 +88,7 @@ ReservesAct =
 -- and that of an SC that comes next, and succeeds, is that of its registers
 abbrev pub ConditionalsAct : Type 0
 ConditionalsAct =
-    (committed : FlatState) (h : ℕ) (swap : Swap) (rd rs1 rs2 : Reg) (aq rl : Bool) → next_conditional committed h ≡ Some swap →
-    next_insn committed h ≡ Some (insns.Sc rd rs1 rs2 aq rl) →
-    action_of committed (view_of committed h) ≡ actions.StoreConditional rd swap.word (get (view_of committed h).regs rs2.number)
+    (committed : FlatState) (h : ℕ) (swap : Swap) (rd rs1 rs2 : Reg) (aq rl : Bool) →
+    next_conditional committed h ≡ Some swap → next_insn committed h ≡ Some (insns.Sc rd rs1 rs2 aq rl) →
+    action_of committed (view_of committed h) ≡ actions.StoreConditional rd swap.word
+    (get (view_of committed h).regs rs2.number)

@@ -1,6 +1,7 @@
--- what the code keeps of a live section, its present view and its buffered stores, and of an armed one, its view and its word's value,
--- against the private run of the definition
-use Rattle.std.specs.Prelude.{ℕ, ◌≡◌, ◌≤◌, ◌<◌, ◌+◌, ◌↔◌, Bool, true, ◌||◌, ◌==◌, List, None, Some, slice_index, unwrap_or}
+-- what the code keeps of a live section, its present view and its buffered stores, and of an armed one, its view and
+-- its word's value, against the private run of the definition
+use Rattle.std.specs.Prelude.{ℕ, ◌≡◌, ◌≤◌, ◌<◌, ◌+◌, ◌↔◌, Bool, true, ◌||◌, ◌==◌, List, None, Some, slice_index}
+use Rattle.std.specs.Prelude.{unwrap_or}
 use Rattle.residency.specs.Cache.{write_bit}
 use Rattle.residency.specs.Residency.{Way}
 use Rattle.core_step.specs.Port.{stored}
@@ -28,14 +29,16 @@ abbrev pub is_written : ℕ → List Entry → ℕ → Bool
 is_written word hold line = (line == line_number word) || holds hold line
 
 -- a view and a hold tell what a section's private run has come to
-pub record KeepsRun (committed : FlatState) (h : ℕ) (section : Section) (now : HartView) (hold : List Entry) : Type 0 where
+pub record KeepsRun (committed : FlatState) (h : ℕ) (section : Section) (now : HartView)
+    (hold : List Entry) : Type 0 where
   -- the view is the hart's after its own steps
   pub view : now ≡ view_of (alone committed h section.count) h
   -- a held byte is the one there after them
   pub held_byte : (place byte : ℕ) → held hold (committed.base + place) ≡ Some byte →
       slice_index (alone committed h section.count).bytes place ≡ byte
   -- one that is not held, outside of the lock word, is as committed
-  pub unheld_byte : (place : ℕ) → held hold (committed.base + place) ≡ None → IsOutsideWord section.word (committed.base + place) →
+  pub unheld_byte : (place : ℕ) → held hold (committed.base + place) ≡ None →
+      IsOutsideWord section.word (committed.base + place) →
       slice_index (alone committed h section.count).bytes place ≡ slice_index committed.bytes place
   -- no byte of the lock word is held
   pub free : (address : ℕ) → section.word ≤ address → address < section.word + 4 → held hold address ≡ None
@@ -59,7 +62,8 @@ KeepsWriteBits old new = (line : ℕ) → write_bit old line ≡ true → write_
 abbrev pub held_over : List Entry → (ℕ → ℕ) → ℕ → ℕ
 held_over hold under address = unwrap_or (held hold address) (under address)
 
--- the byte that a section shows at an address: its new value's in the lock word, else the held one, else the one under it
+-- the byte that a section shows at an address: its new value's in the lock word, else the
+-- held one, else the one under it
 abbrev pub section_byte : List Entry → ℕ → ℕ → (ℕ → ℕ) → ℕ → ℕ
 section_byte hold word new under = stored (held_over hold under) word 4 new
 

@@ -1,5 +1,6 @@
 -- the release of a section, and what a commit leaves
-use Rattle.std.specs.Prelude.{ℕ, ◌≡◌, ◌≢◌, ◌≤◌, ◌<◌, ◌+◌, ◌/◌, ◌%◌, Bool, false, if◌then◌else◌, List, Option, None, Some, length, slice_index, unwrap_or}
+use Rattle.std.specs.Prelude.{ℕ, ◌≡◌, ◌≢◌, ◌≤◌, ◌<◌, ◌+◌, ◌/◌, ◌%◌, Bool, false, if◌then◌else◌, List, Option, None}
+use Rattle.std.specs.Prelude.{Some, length, slice_index, unwrap_or}
 use Rattle.coherence.specs.Beginning.{line_of}
 use Rattle.el_base.specs.Line.{line_number}
 use Rattle.el_base.specs.declared.line.TheConstants.{LINE_BYTES}
@@ -40,8 +41,8 @@ pub record IsLineFrom (state : FlatState) (line : ℕ) : Type 0 where
   pub aligned : state.base % LINE_BYTES ≡ 0
   pub from : state.base / LINE_BYTES ≤ line
 
--- what is done is what was committed, with a section's effect: its hart has this view, the held bytes are put over memory, and the
--- other harts have lost their reservations of words on the lines that were written
+-- what is done is what was committed, with a section's effect: its hart has this view, the held bytes are put over
+-- memory, and the other harts have lost their reservations of words on the lines that were written
 pub record HasEffect (committed done : FlatState) (h word : ℕ) (view : HartView) (hold : List Entry) : Type 0 where
   pub own : view_of done h ≡ view
   pub others : (g : ℕ) → g ≢ h → view_of done g ≡ view_unreserved_on (is_written word hold) (view_of committed g)
@@ -50,7 +51,8 @@ pub record HasEffect (committed done : FlatState) (h word : ℕ) (view : HartVie
       slice_index done.bytes place ≡ unwrap_or (held hold (committed.base + place)) (slice_index committed.bytes place)
   pub lines : (line place : ℕ) → IsLineFrom committed line → place < LINE_BYTES →
       slice_index (line_of done line) place ≡ seen_at hold line (line_of committed line) place
-  pub same : (line : ℕ) → IsLineFrom committed line → holds hold line ≡ false → line_of done line ≡ line_of committed line
+  pub same : (line : ℕ) → IsLineFrom committed line → holds hold line ≡ false →
+      line_of done line ≡ line_of committed line
   pub output : done.output ≡ committed.output
   pub base : done.base ≡ committed.base
   pub code : done.code ≡ committed.code

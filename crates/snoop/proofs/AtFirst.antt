@@ -1,5 +1,6 @@
 -- what the bus shows before the first event
-use Rattle.std.proofs.Common.{◌≡◌, ◌∙◌, ◌<◌, ◌≤◌, ℕ, zero, suc, ◌*◌, true, false, [], length, replicate, Option, None, Some, refl, ap, sym, subst, arith}
+use Rattle.std.proofs.Common.{◌≡◌, ◌∙◌, ◌<◌, ◌≤◌, ℕ, zero, suc, ◌*◌, true, false, [], length, replicate, Option, None}
+use Rattle.std.proofs.Common.{Some, refl, ap, sym, subst, arith}
 use Rattle.std.specs.Prelude.{slice_index_or}
 use Rattle.std.proofs.lemmas.Bool.Decides.{nat_tests}
 use Rattle.std.proofs.lemmas.List.{length-replicate}
@@ -29,13 +30,15 @@ use Rattle.snoop.specs.Shows.{IsReady, BusState, Shows}
 abbrev hart_in : ℕ → ℕ → ℕ → Hart
 hart_in harts sets h = slice_index_or (replicate harts (new_hart sets)) h (new_hart 0)
 
-agents_new : (harts sets h : ℕ) → agent_at (replicate harts new_agent) h ≡ agent_of (slice_index_or (replicate harts (new_hart sets)) h (new_hart 0))
+agents_new : (harts sets h : ℕ) →
+    agent_at (replicate harts new_agent) h ≡ agent_of (slice_index_or (replicate harts (new_hart sets)) h (new_hart 0))
 agents_new zero sets h = refl
 agents_new (suc harts) sets zero = refl
 agents_new (suc harts) sets (suc h) = agents_new harts sets h
 
 caches_new : (harts ways sets h : ℕ) →
-    (cache_at (replicate harts (empty_cached ways sets)) h).residency ≡ (slice_index_or (replicate harts (new_hart sets)) h (new_hart 0)).cache
+    (cache_at (replicate harts (empty_cached ways sets)) h).residency
+    ≡ (slice_index_or (replicate harts (new_hart sets)) h (new_hart 0)).cache
 caches_new zero ways sets h = refl
 caches_new (suc harts) ways sets zero = refl
 caches_new (suc harts) ways sets (suc h) = caches_new harts ways sets h
@@ -60,15 +63,18 @@ pub record IsNew (program : Program) (config : Config) (bus : BusState) : Type 0
   pub first : bus.copies.first * LINE_BYTES ≡ program.base
   pub lines : length bus.copies.lines * LINE_BYTES ≡ length program.bytes
 
-count_agents : (program : Program) (config : Config) (bus : BusState) → IsNew program config bus → length bus.agents ≡ config.harts
+count_agents : (program : Program) (config : Config) (bus : BusState) → IsNew program config bus →
+    length bus.agents ≡ config.harts
 count_agents program config bus new = ap length new.agents ∙ length-replicate config.harts new_agent
 
-count_caches : (program : Program) (config : Config) (bus : BusState) → IsNew program config bus → length bus.copies.caches ≡ config.harts
+count_caches : (program : Program) (config : Config) (bus : BusState) → IsNew program config bus →
+    length bus.copies.caches ≡ config.harts
 count_caches program config bus new =
-    sym (length-lent no_pool bus.copies.caches) ∙ ap length new.caches ∙ length-replicate config.harts (empty_cached config.ways config.sets)
+    sym (length-lent no_pool bus.copies.caches) ∙ ap length new.caches
+    ∙ length-replicate config.harts (empty_cached config.ways config.sets)
 
-pub shows_first : (program : Program) (config : Config) (bus : BusState) → program.harts ≡ config.harts → IsNew program config bus →
-    Shows bus (begin program config)
+pub shows_first : (program : Program) (config : Config) (bus : BusState) → program.harts ≡ config.harts →
+    IsNew program config bus → Shows bus (begin program config)
 unfolding begin start
 shows_first program config bus one_each new = record {
   mode = new.mode;
@@ -97,7 +103,8 @@ some_sets (suc sets) is = omega arith
 few_harts : (harts : ℕ) → allows Harts harts ≡ true → harts ≤ 8
 few_harts harts is = grind (arith, nat_tests)
 
-pub ready_first : (program : Program) (config : Config) (bus : BusState) → IsInRange config → IsNew program config bus → IsReady bus
+pub ready_first : (program : Program) (config : Config) (bus : BusState) → IsInRange config →
+    IsNew program config bus → IsReady bus
 ready_first program config bus in_range new = record {
   few = omega (arith, count_agents program config bus new, few_harts config.harts (ranges config in_range).harts);
   each = count_caches program config bus new ∙ sym (count_agents program config bus new);
@@ -118,10 +125,12 @@ ready_first program config bus in_range new = record {
 }
   where
     well_formed_new : (harts ways sets h : ℕ) → 0 < sets → h < harts →
-        IsWellFormed (cache_at (replicate harts (empty_cached ways sets)) h).ways (cache_at (replicate harts (empty_cached ways sets)) h).residency
+        IsWellFormed (cache_at (replicate harts (empty_cached ways sets)) h).ways
+        (cache_at (replicate harts (empty_cached ways sets)) h).residency
     well_formed_new zero ways sets h some below = absurd (omega (arith, below))
     well_formed_new (suc harts) ways sets zero some below = well_formed-empty_cache ways sets some
-    well_formed_new (suc harts) ways sets (suc h) some below = well_formed_new harts ways sets h some (omega (arith, below))
+    well_formed_new (suc harts) ways sets (suc h) some below =
+        well_formed_new harts ways sets h some (omega (arith, below))
 
     asked_nothing : (harts h : ℕ) → (agent_at (replicate harts new_agent) h).raised ≡ None
     asked_nothing zero h = refl

@@ -13,8 +13,8 @@ pub record AreChangedBelow (becomes : ℕ → Agent → Agent) (number : ℕ) (o
 pub none_changed : (becomes : ℕ → Agent → Agent) (old : List Agent) → AreChangedBelow becomes 0 old old
 none_changed becomes old = record { count = refl; done = λ g below. absurd (omega arith); rest = λ g from. refl }
 
-pub one_changed : (becomes : ℕ → Agent → Agent) (number : ℕ) (old new : List Agent) (agent : Agent) → number < length new →
-    agent ≡ becomes number (agent_at new number) → AreChangedBelow becomes number old new →
+pub one_changed : (becomes : ℕ → Agent → Agent) (number : ℕ) (old new : List Agent) (agent : Agent) →
+    number < length new → agent ≡ becomes number (agent_at new number) → AreChangedBelow becomes number old new →
     AreChangedBelow becomes (suc number) old (with_agent new number agent)
 one_changed becomes number old new agent inside is below = record {
   count = count_with_agent new number agent ∙ below.count;

@@ -26,18 +26,20 @@ use Rattle.stamp.specs.Stamps.{Stamp}
 -- past the last hart no origin was told
 pub none_told : (agent : Agent) (order : List Request) (line from : ℕ) (agents : List Agent) → from ≡ length agents →
     told_from agent order line from (drop from agents) ≡ None
-none_told agent order line from agents past = ap (told_from agent order line from) (drop_of_length-le agents (omega arith))
+none_told agent order line from agents past =
+    ap (told_from agent order line from) (drop_of_length-le agents (omega arith))
 
 -- one origin before those that were looked at
-pub told_before : (agents : List Agent) (agent : Agent) (order : List Request) (line from number : ℕ) (later here : Option ℕ) →
-    from ≡ suc number → number < length agents → later ≡ told_from agent order line from (drop from agents) →
-    here ≡ earlier_told agent order line number later → here ≡ told_from agent order line number (drop number agents)
+pub told_before : (agents : List Agent) (agent : Agent) (order : List Request) (line from number : ℕ)
+    (later here : Option ℕ) → from ≡ suc number → number < length agents →
+    later ≡ told_from agent order line from (drop from agents) → here ≡ earlier_told agent order line number later →
+    here ≡ told_from agent order line number (drop number agents)
 told_before agents agent order line from number later here next inside behind is =
     rw (is, behind, next, drop-cons agents number new_agent inside) refl
 
 -- the origin that the agents tell is the definition's
-told_by_harts : (agent : Agent) (order : List Request) (line from : ℕ) (agents : List Agent) (harts : List Hart) → length agents ≡ length harts →
-    told_from agent order line from agents
+told_by_harts : (agent : Agent) (order : List Request) (line from : ℕ) (agents : List Agent) (harts : List Hart) →
+    length agents ≡ length harts → told_from agent order line from agents
     ≡ least_such (is_earlier_told agent order line) (stamp_on order line) (count_up from harts)
 told_by_harts agent order line from [] [] same = refl
 told_by_harts agent order line from [] (hart ∷ harts) same = absurd (omega arith)
@@ -102,8 +104,9 @@ one_fate_more bus head number h known fate below same is = record {
 }
 
 -- past the last hart there is nothing to meet
-pub all_fates : (bus : BusState) (head : Request) (number : ℕ) (known : List fates.Fate) → FatesBelow bus head number known →
-    number ≡ length bus.agents → (state : ModelState) → Shows bus state → (h : ℕ) → fate_in known h ≡ fate_at state head h
+pub all_fates : (bus : BusState) (head : Request) (number : ℕ) (known : List fates.Fate) →
+    FatesBelow bus head number known → number ≡ length bus.agents → (state : ModelState) → Shows bus state → (h : ℕ) →
+    fate_in known h ≡ fate_at state head h
 all_fates bus head number known below all state shows h = elim (cases_lt h number) [
   | inl under ↦ below.each state shows h under
   | inr past ↦

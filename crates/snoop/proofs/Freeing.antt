@@ -1,5 +1,6 @@
 -- the harts that a head lets go, one after another
-use Rattle.std.proofs.Common.{◌≡◌, ◌≢◌, ◌∙◌, ℕ, ◌+◌, ◌<◌, ◌≤◌, ◌==◌, Bool, true, false, cond, length, refl, ap, sym, arith, inl, inr, if◌then◌else◌}
+use Rattle.std.proofs.Common.{◌≡◌, ◌≢◌, ◌∙◌, ℕ, ◌+◌, ◌<◌, ◌≤◌, ◌==◌, Bool, true, false, cond, length, refl, ap, sym}
+use Rattle.std.proofs.Common.{arith, inl, inr, if◌then◌else◌}
 use Rattle.std.proofs.lemmas.Bool.{cases_eq, cases_lt}
 use Rattle.bus_order.specs.Order.{Request}
 use Rattle.el_base.specs.Freed.{count_in}
@@ -20,7 +21,8 @@ pub no_one_yet : (count : ℕ → ℕ) (freed : Freed) → ((h : ℕ) → count_
 no_one_yet count freed none = record { done = λ h below. absurd (omega arith); rest = λ h from. none h }
 
 pub one_freed_more : (count : ℕ → ℕ) (number : ℕ) (freed result : Freed) → AreFreedBelow count number freed →
-    ((h : ℕ) → count_in result h ≡ (if h == number then count number else count_in freed h)) → AreFreedBelow count (number + 1) result
+    ((h : ℕ) → count_in result h ≡ (if h == number then count number else count_in freed h)) →
+    AreFreedBelow count (number + 1) result
 one_freed_more count number freed result below is = record {
   done = λ h under. elim (cases_eq h number) [
     | inl same ↦ is h ∙ here h same
@@ -43,7 +45,8 @@ all_freed bus head number freed all below h = elim (cases_lt h number) [
   | inr past ↦ below.rest h past ∙ sym (nothing (frees bus head h) (agent_past bus.agents h (omega (arith, past, all))))
 ]
   where
-    nothing : (test : Bool) → agent_at bus.agents h ≡ new_agent → (if test then (agent_at bus.agents h).armed else 0) ≡ 0
+    nothing : (test : Bool) → agent_at bus.agents h ≡ new_agent →
+        (if test then (agent_at bus.agents h).armed else 0) ≡ 0
     nothing true is = ap (λ agent. agent.armed) is
     nothing false is = refl
 
@@ -51,7 +54,7 @@ all_freed bus head number freed all below h = elim (cases_lt h number) [
 pub none_let_go : (freed : Freed) (bus : BusState) → AreLetGo freed 0 bus bus
 none_let_go freed bus = no_hart_changed (λ h. agent_let_go (goes freed h)) (goes freed) bus
 
-pub one_let_go : (freed : Freed) (h : ℕ) (old mid new : BusState) → AreLetGo freed h old mid → IsLetGo (goes freed h) h mid new →
-    h < length mid.agents → AreLetGo freed (h + 1) old new
+pub one_let_go : (freed : Freed) (h : ℕ) (old mid new : BusState) → AreLetGo freed h old mid →
+    IsLetGo (goes freed h) h mid new → h < length mid.agents → AreLetGo freed (h + 1) old new
 one_let_go freed h old mid new below at inside =
     one_hart_changed (λ g. agent_let_go (goes freed g)) (goes freed) h old mid new below at inside

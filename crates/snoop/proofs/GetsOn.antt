@@ -10,8 +10,8 @@ use Rattle.mail.specs.Mailbox.{Message}
 use Rattle.snoop.specs.Readiness.{is_delivered, is_served}
 
 -- a request is served exactly where nothing is in its way
-pub served_past : (state : ModelState) (request : Request) (free : Bool) (obstacle : Obstacle) → (free ≡ true) ↔ (obstacle ≡ Free) →
-    free ≡ is_served (serve_past state request obstacle).outcome
+pub served_past : (state : ModelState) (request : Request) (free : Bool) (obstacle : Obstacle) →
+    (free ≡ true) ↔ (obstacle ≡ Free) → free ≡ is_served (serve_past state request obstacle).outcome
 served_past state request true Free is = refl
 served_past state request true (Blocks why by) is = absurd (blocked (is.0 refl))
   where

@@ -1,5 +1,6 @@
 -- what is seen of the caches through any pool, and what stays as one of them has no bits any more
-use Rattle.std.proofs.Common.{◌≡◌, ◌≢◌, ◌∙◌, ◌<◌, ◌≤◌, ℕ, zero, suc, Bool, true, false, List, [], ◌∷◌, length, refl, ap, sym, subst, inl, inr, arith}
+use Rattle.std.proofs.Common.{◌≡◌, ◌≢◌, ◌∙◌, ◌<◌, ◌≤◌, ℕ, zero, suc, Bool, true, false, List, [], ◌∷◌, length, refl, ap}
+use Rattle.std.proofs.Common.{sym, subst, inl, inr, arith}
 use Rattle.std.proofs.lemmas.Bool.{cases_eq}
 use Rattle.residency.specs.Cache.{cleared, has_marks, room_of}
 use Rattle.residency.specs.WellFormed.{IsWellFormed}
@@ -20,15 +21,18 @@ use Rattle.snoop.specs.Shows.{Holding, IsUnmarked, LiesIn, has_room_in, lent_cop
 abbrev pub no_pool : Pooled
 no_pool = record { shares = []; lines = [] }
 
-pub ways_at : (pool : Pooled) (caches : List Slotted) (h : ℕ) → (cache_at (lent_all pool caches) h).ways ≡ (slotted_at caches h).ways
+pub ways_at : (pool : Pooled) (caches : List Slotted) (h : ℕ) →
+    (cache_at (lent_all pool caches) h).ways ≡ (slotted_at caches h).ways
 ways_at pool caches h = ap (λ (cache : Cached). cache.ways) (lent_at pool caches h)
 
 pub residency_at : (pool : Pooled) (caches : List Slotted) (h : ℕ) →
     (cache_at (lent_all pool caches) h).residency ≡ (slotted_at caches h).residency
 residency_at pool caches h = ap (λ (cache : Cached). cache.residency) (lent_at pool caches h)
 
-pub room_at : (pool : Pooled) (holding : Holding) (h line : ℕ) → has_room (lent_copies pool holding) h line ≡ has_room_in holding h line
-room_at pool holding h line = ap (λ (cache : Cached). room_of cache.ways cache.residency line) (lent_at pool holding.caches h)
+pub room_at : (pool : Pooled) (holding : Holding) (h line : ℕ) →
+    has_room (lent_copies pool holding) h line ≡ has_room_in holding h line
+room_at pool holding h line =
+    ap (λ (cache : Cached). room_of cache.ways cache.residency line) (lent_at pool holding.caches h)
 
 -- a cache past the last one
 pub beyond : (caches : List Slotted) (h : ℕ) → length caches ≤ h → slotted_at caches h ≡ no_slotted
@@ -49,8 +53,8 @@ stays_twice old mid new first second = record {
 }
 
 -- how many caches there are, as two pools tell it
-pub count_by_pools : (before after : Pooled) (old new : Holding) → StaysCoherent (lent_copies before old) (lent_copies after new) →
-    length new.caches ≡ length old.caches
+pub count_by_pools : (before after : Pooled) (old new : Holding) →
+    StaysCoherent (lent_copies before old) (lent_copies after new) → length new.caches ≡ length old.caches
 count_by_pools before after old new stays =
     sym (length-lent after new.caches) ∙ stays.caches ∙ length-lent before old.caches
 
@@ -66,10 +70,13 @@ clears_one h old new clears =
     let changed = clears.changed no_pool in record {
       own = record {
         ways = sym (ways_at no_pool new.caches h) ∙ changed.own.ways ∙ ways_at no_pool old.caches h;
-        residency = sym (residency_at no_pool new.caches h) ∙ changed.own.residency ∙ ap cleared (residency_at no_pool old.caches h);
+        residency =
+            sym (residency_at no_pool new.caches h) ∙ changed.own.residency
+            ∙ ap cleared (residency_at no_pool old.caches h);
       };
       others = λ g apart. record {
-        ways = sym (ways_at no_pool new.caches g) ∙ ap (λ (cache : Cached). cache.ways) (changed.others g apart) ∙ ways_at no_pool old.caches g;
+        ways = sym (ways_at no_pool new.caches g) ∙ ap (λ (cache : Cached). cache.ways) (changed.others g apart)
+            ∙ ways_at no_pool old.caches g;
         residency =
             sym (residency_at no_pool new.caches g) ∙ ap (λ (cache : Cached). cache.residency) (changed.others g apart)
             ∙ residency_at no_pool old.caches g;
@@ -94,14 +101,14 @@ lies_in_yet line stays has = record {
 }
 
 -- a cache whose bits are gone is well formed as before, has as much room, and gets no bit
-pub cleared_well_formed : (clears : Bool) (old new : Slotted) → ClearedIf clears old new → IsWellFormed old.ways old.residency →
-    IsWellFormed new.ways new.residency
+pub cleared_well_formed : (clears : Bool) (old new : Slotted) → ClearedIf clears old new →
+    IsWellFormed old.ways old.residency → IsWellFormed new.ways new.residency
 cleared_well_formed true old new cleared formed =
     rw (cleared.ways, cleared.residency) (well_formed-cleared old.ways old.residency formed)
 cleared_well_formed false old new kept formed = rw (kept.ways, kept.residency) formed
 
-pub cleared_room : (clears : Bool) (old new : Slotted) (line : ℕ) → ClearedIf clears old new → room_of old.ways old.residency line ≡ true →
-    room_of new.ways new.residency line ≡ true
+pub cleared_room : (clears : Bool) (old new : Slotted) (line : ℕ) → ClearedIf clears old new →
+    room_of old.ways old.residency line ≡ true → room_of new.ways new.residency line ≡ true
 cleared_room true old new line cleared room =
     rw (cleared.ways, cleared.residency) (room_after_clear old.ways old.residency line room)
 cleared_room false old new line kept room = rw (kept.ways, kept.residency) room
@@ -112,18 +119,21 @@ cleared_unmarked true old new cleared none = rw cleared.residency (unmarked-clea
 cleared_unmarked false old new kept none = rw kept.residency none
 
 pub one_well_formed : {h : ℕ} {old new : Holding} → ClearsOne h old new →
-    ((g : ℕ) → g < length old.caches → IsWellFormed (slotted_at old.caches g).ways (slotted_at old.caches g).residency) →
-    (g : ℕ) → g < length new.caches → IsWellFormed (slotted_at new.caches g).ways (slotted_at new.caches g).residency
+    ((g : ℕ) → g < length old.caches →
+    IsWellFormed (slotted_at old.caches g).ways (slotted_at old.caches g).residency) → (g : ℕ) →
+    g < length new.caches → IsWellFormed (slotted_at new.caches g).ways (slotted_at new.caches g).residency
 one_well_formed {h} {old} {new} clears formed g below =
     let was = formed g (omega (arith, below, clears.stays.caches)) in
     elim (cases_eq g h) [
       | inl same ↦
           cleared_well_formed true (slotted_at old.caches g) (slotted_at new.caches g)
           (subst (λ k. ClearedIf true (slotted_at old.caches k) (slotted_at new.caches k)) (sym same) clears.own) was
-      | inr other ↦ cleared_well_formed false (slotted_at old.caches g) (slotted_at new.caches g) (clears.others g other) was
+      | inr other ↦ cleared_well_formed false (slotted_at old.caches g) (slotted_at new.caches g)
+          (clears.others g other) was
     ]
 
-pub one_room : {h : ℕ} {old new : Holding} → ClearsOne h old new → (g line : ℕ) → has_room_in old g line ≡ true → has_room_in new g line ≡ true
+pub one_room : {h : ℕ} {old new : Holding} → ClearsOne h old new → (g line : ℕ) → has_room_in old g line ≡ true →
+    has_room_in new g line ≡ true
 one_room {h} {old} {new} clears g line had = elim (cases_eq g h) [
   | inl same ↦
       cleared_room true (slotted_at old.caches g) (slotted_at new.caches g) line

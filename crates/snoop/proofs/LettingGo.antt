@@ -1,5 +1,6 @@
 -- what the bus shows after a head has let harts go
-use Rattle.std.proofs.Common.{◌≡◌, ◌∙◌, ℕ, ◌≤◌, ◌==◌, ◌&&◌, Bool, true, false, not, length, is_some, refl, ap, sym, subst, arith, inl, inr, if◌then◌else◌}
+use Rattle.std.proofs.Common.{◌≡◌, ◌∙◌, ℕ, ◌≤◌, ◌==◌, ◌&&◌, Bool, true, false, not, length, is_some, refl, ap, sym}
+use Rattle.std.proofs.Common.{subst, arith, inl, inr, if◌then◌else◌}
 use Rattle.std.proofs.lemmas.Bool.{cases_lt}
 use Rattle.bus_order.specs.Order.{Request}
 use Rattle.residency.specs.Cache.{has_bit}
@@ -33,7 +34,8 @@ frees_shown : (bus : BusState) (state : ModelState) (head : Request) (h : ℕ) �
     frees bus head h ≡ is_freed head h (hart_of state h)
 frees_shown bus state head h shows =
     let first = is_write head && not (head.hart == h) in
-    ap (λ agent. first && not (agent.armed == 0) && has_bit (slotted_at bus.copies.caches h).residency head.line) (shows.agents h)
+    ap (λ agent. first && not (agent.armed == 0) && has_bit (slotted_at bus.copies.caches h).residency head.line)
+    (shows.agents h)
     ∙ ap (λ armed. first && armed && has_bit (slotted_at bus.copies.caches h).residency head.line) (sym (shows.arms h))
     ∙ ap (λ cache. first && is_some (hart_of state h).armed && has_bit cache head.line) (shows.caches h)
 
@@ -50,7 +52,8 @@ freed_is bus state head freed ready shows is =
     (λ h. elim (cases_lt h 8) [
       | inl low ↦
           is h ∙ freed_shown bus state head h shows
-          ∙ sym (count_in-freed_of (λ g. freed_count head g (hart_of state g)) h low (subst (λ n. n ≤ 15) (freed_shown bus state head h shows) (few h)))
+          ∙ sym (count_in-freed_of (λ g. freed_count head g (hart_of state g)) h low
+          (subst (λ n. n ≤ 15) (freed_shown bus state head h shows) (few h)))
       | inr high ↦ count_in-beyond freed h high ∙ sym (count_in-beyond (freed_by state head) h high)
     ])
   where
@@ -62,7 +65,8 @@ freed_is bus state head freed ready shows is =
     few h = few_if (frees bus head h) (agent_at bus.agents h).armed (ready.few_armed h)
 
 -- a hart goes exactly where the head frees it
-goes_if : (test : Bool) (n count : ℕ) → (test ≡ true → not (n == 0) ≡ true) → count ≡ (if test then n else 0) → not (count == 0) ≡ test
+goes_if : (test : Bool) (n count : ℕ) → (test ≡ true → not (n == 0) ≡ true) → count ≡ (if test then n else 0) →
+    not (count == 0) ≡ test
 goes_if true n count some is = ap (λ k. not (k == 0)) is ∙ some refl
 goes_if false n count some is = ap (λ k. not (k == 0)) is
 
@@ -98,16 +102,19 @@ gone_cache false pc hart = refl
 
 gone_tells : (test : Bool) (pc : ℕ) (hart : Hart) → (test ≡ true → is_some hart.armed ≡ true) → TellsSection hart →
     TellsSection (gone_if test pc hart)
-gone_tells true pc hart armed told = tells_cleared (let_go_hart pc hart) hart.cache (armed_lifeless hart told (armed refl)) refl refl
+gone_tells true pc hart armed told =
+    tells_cleared (let_go_hart pc hart) hart.cache (armed_lifeless hart told (armed refl)) refl refl
 gone_tells false pc hart armed told = told
 
-freed_tells : (state : ModelState) (head : Request) (h : ℕ) (hart : Hart) → TellsSection hart → TellsSection (freed_hart state head h hart)
+freed_tells : (state : ModelState) (head : Request) (h : ℕ) (hart : Hart) → TellsSection hart →
+    TellsSection (freed_hart state head h hart)
 freed_tells state head h hart told =
     gone_tells (is_freed head h hart) (view_of state.committed h).pc hart
     (armed_of_freed (is_write head && not (head.hart == h)) (is_some hart.armed) (has_bit hart.cache head.line)) told
 
 let_go_each : (bus new : BusState) (state : ModelState) (head : Request) (freed : Freed) → Shows bus state →
-    ((h : ℕ) → count_in freed h ≡ freed_at bus head h) → AreLetGo freed (length bus.agents) bus new → ShowsEach bus new state (freed_hart state head)
+    ((h : ℕ) → count_in freed h ≡ freed_at bus head h) → AreLetGo freed (length bus.agents) bus new →
+    ShowsEach bus new state (freed_hart state head)
 let_go_each bus new state head freed shows is gone = record {
   mode = gone.mode;
   agent_each = gone.count;
@@ -133,12 +140,15 @@ pub let_go_shows : (bus new : BusState) (state : ModelState) (head : Request) (f
     Shows new (with_committed state.committed (let_go state head))
 unfolding let_go
 let_go_shows bus new state head freed shows is gone =
-    subst (λ order. Shows new (record (each_hart state (freed_hart state head)) { order = order })) (gone.order ∙ shows.order)
+    subst (λ order. Shows new (record (each_hart state (freed_hart state head)) { order = order }))
+    (gone.order ∙ shows.order)
     (shows_each bus new state (freed_hart state head) shows (let_go_each bus new state head freed shows is gone))
 
-pub let_go_ready : (bus new : BusState) (freed : Freed) (number : ℕ) → AreLetGo freed number bus new → IsReady bus → IsReady new
+pub let_go_ready : (bus new : BusState) (freed : Freed) (number : ℕ) → AreLetGo freed number bus new →
+    IsReady bus → IsReady new
 let_go_ready bus new freed number gone ready =
-    changed_ready gone (λ h agent. raised_yet (goes freed h) agent) (λ h agent few. few_yet (goes freed h) agent few) ready
+    changed_ready gone (λ h agent. raised_yet (goes freed h) agent)
+    (λ h agent few. few_yet (goes freed h) agent few) ready
   where
     raised_yet : (test : Bool) (agent : Agent) → (agent_let_go test agent).raised ≡ agent.raised
     raised_yet true agent = refl
@@ -169,16 +179,17 @@ unfolding face_losers
 losers_elsewhere state committed head = λ i. losers_of (λ h. winner_in (fate_elsewhere state committed head h i))
 
 -- a face changes nothing that is committed, and nor does what comes before a head is met
-pub met_bytes : (state : ModelState) (head : Request) (committed : FlatState) → KeepsBytes committed (met state head).committed →
-    KeepsBytes committed (let_go state head).committed
-met_bytes state head committed keeps = subst (KeepsBytes committed) (keeps_faced (let_go state head) head).committed keeps
+pub met_bytes : (state : ModelState) (head : Request) (committed : FlatState) →
+    KeepsBytes committed (met state head).committed → KeepsBytes committed (let_go state head).committed
+met_bytes state head committed keeps =
+    subst (KeepsBytes committed) (keeps_faced (let_go state head) head).committed keeps
 
-pub placed_bytes : (state : ModelState) (request : Request) (place : Place) (committed : FlatState) → KeepsBytes state.committed committed →
-    KeepsBytes (before_face state request place).committed committed
+pub placed_bytes : (state : ModelState) (request : Request) (place : Place) (committed : FlatState) →
+    KeepsBytes state.committed committed → KeepsBytes (before_face state request place).committed committed
 placed_bytes state request place committed keeps =
     subst (λ before. KeepsBytes before committed) (sym (keeps_before_face state request place).committed) keeps
 
-pub served_bytes : (state : ModelState) (request : Request) (committed : FlatState) → KeepsBytes state.committed committed →
-    KeepsBytes (served state request).committed committed
+pub served_bytes : (state : ModelState) (request : Request) (committed : FlatState) →
+    KeepsBytes state.committed committed → KeepsBytes (served state request).committed committed
 served_bytes state request committed keeps =
     subst (λ before. KeepsBytes before committed) (sym (keeps_served state request).committed) keeps

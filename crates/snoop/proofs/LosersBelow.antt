@@ -1,5 +1,6 @@
 -- the losers of a list of fates, one hart after another
-use Rattle.std.proofs.Common.{◌≡◌, ◌≢◌, ◌∙◌, ℕ, ◌+◌, ◌<◌, ◌≤◌, ◌==◌, cond, List, [], length, None, refl, ap, sym, arith, inl, inr, if◌then◌else◌}
+use Rattle.std.proofs.Common.{◌≡◌, ◌≢◌, ◌∙◌, ℕ, ◌+◌, ◌<◌, ◌≤◌, ◌==◌, cond, List, [], length, None, refl, ap, sym, arith}
+use Rattle.std.proofs.Common.{inl, inr, if◌then◌else◌}
 use Rattle.std.specs.Prelude.{IfSome, slice_index_or}
 use Rattle.std.proofs.lemmas.Bool.{cases_eq, cases_lt}
 use Rattle.std.proofs.lemmas.List.{get_or_default, get_or_past}
@@ -18,7 +19,8 @@ pub record AreLosersBelow (fate : ℕ → Fate) (number : ℕ) (losers : Losers)
   pub done : (h : ℕ) → h < number → beaten_by losers h ≡ winner_in (fate h)
   pub rest : (h : ℕ) → number ≤ h → beaten_by losers h ≡ None
 
-pub no_losers : (fate : ℕ → Fate) (losers : Losers) → ((h : ℕ) → beaten_by losers h ≡ None) → AreLosersBelow fate 0 losers
+pub no_losers : (fate : ℕ → Fate) (losers : Losers) → ((h : ℕ) → beaten_by losers h ≡ None) →
+    AreLosersBelow fate 0 losers
 no_losers fate losers none = record { done = λ h below. absurd (omega arith); rest = λ h from. none h }
 
 -- one hart more has lost, where its fate says so
@@ -33,11 +35,13 @@ one_loser_more fate number losers result below is = record {
   rest = λ h from. is h ∙ there h (λ same. absurd (omega (arith, from, same))) ∙ below.rest h (omega (arith, from));
 }
   where
-    here : (h : ℕ) → h ≡ number → (if h == number then winner_in (fate number) else beaten_by losers h) ≡ winner_in (fate h)
+    here : (h : ℕ) → h ≡ number → (if h == number then winner_in (fate number) else beaten_by losers h)
+        ≡ winner_in (fate h)
     here h same =
         rw same (ap (λ b. cond b (winner_in (fate number)) (beaten_by losers number)) (own_test number))
 
-    there : (h : ℕ) → h ≢ number → (if h == number then winner_in (fate number) else beaten_by losers h) ≡ beaten_by losers h
+    there : (h : ℕ) → h ≢ number → (if h == number then winner_in (fate number) else beaten_by losers h)
+        ≡ beaten_by losers h
     there h other = ap (λ b. cond b (winner_in (fate number)) (beaten_by losers h)) (other_test h number other)
 
 -- a winner is a hart
@@ -55,8 +59,12 @@ pub all_losers : (known : List fates.Fate) (number : ℕ) (losers : Losers) → 
 all_losers known number losers all few below =
     same_losers losers (losers_of (λ h. winner_in (fate_in known h)))
     (λ h. elim (cases_lt h 8) [
-      | inl low ↦ told h ∙ sym (beaten_by-losers_of (λ g. winner_in (fate_in known g)) h low (hart_wins (slice_index_or known h declared.Unmet)))
-      | inr high ↦ beaten_by-beyond losers h high ∙ sym (beaten_by-beyond (losers_of (λ g. winner_in (fate_in known g))) h high)
+      | inl low ↦
+          told h
+          ∙ sym (beaten_by-losers_of (λ g. winner_in (fate_in known g)) h low
+          (hart_wins (slice_index_or known h declared.Unmet)))
+      | inr high ↦ beaten_by-beyond losers h high
+          ∙ sym (beaten_by-beyond (losers_of (λ g. winner_in (fate_in known g))) h high)
     ])
   where
     told : (h : ℕ) → beaten_by losers h ≡ winner_in (fate_in known h)
@@ -66,8 +74,8 @@ all_losers known number losers all few below =
     ]
 
 -- a fate that was read of a list
-pub fate_read : (known : List fates.Fate) (h : ℕ) (fate : fates.Fate) → h < length known → fate ≡ slice_index_or known h fate →
-    numbered_fate fate ≡ fate_in known h
+pub fate_read : (known : List fates.Fate) (h : ℕ) (fate : fates.Fate) → h < length known →
+    fate ≡ slice_index_or known h fate → numbered_fate fate ≡ fate_in known h
 fate_read known h fate inside is = ap numbered_fate (is ∙ get_or_default known h fate declared.Unmet inside)
 
 -- where no hart has lost

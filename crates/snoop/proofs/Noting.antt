@@ -7,10 +7,13 @@ use Rattle.snoop.specs.Agent.{agent_at, agent_noted, with_agent}
 use Rattle.snoop.specs.LettingGo.{IsNotedAs}
 use Rattle.snoop.specs.Shows.{BusState, Shows, lives}
 
-pub noted_shows : (bus : BusState) (state : ModelState) (h count : ℕ) (now : Hart) → Shows bus state → IsNotedAs state h count now →
-    Shows (record bus { agents = with_agent bus.agents h (agent_noted count (agent_at bus.agents h)) }) (with_hart state h now)
+pub noted_shows : (bus : BusState) (state : ModelState) (h count : ℕ) (now : Hart) → Shows bus state →
+    IsNotedAs state h count now →
+    Shows (record bus { agents = with_agent bus.agents h (agent_noted count (agent_at bus.agents h)) })
+    (with_hart state h now)
 noted_shows bus state h count now shows noted =
-    shows_told bus state h (agent_noted count (agent_at bus.agents h)) now shows (ap (agent_noted count) (shows.agents h) ∙ sym noted.agent)
+    shows_told bus state h (agent_noted count (agent_at bus.agents h)) now shows
+    (ap (agent_noted count) (shows.agents h) ∙ sym noted.agent)
     noted.cache
     (record {
       live = noted.live ∙ ap (lives now.cache) (sym has);

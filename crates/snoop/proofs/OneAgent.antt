@@ -17,9 +17,12 @@ pub record IsOnlyAgent (state : ModelState) (h : ℕ) (agent : Agent) (hart : Ha
 pub leaves_agent : (bus : BusState) (h : ℕ) (agent : Agent) (becomes : ModelState → Hart) → IsReady bus →
     agent.raised ≡ (agent_at bus.agents h).raised → agent.armed ≡ (agent_at bus.agents h).armed →
     ((state : ModelState) → Shows bus state → IsOnlyAgent state h agent (becomes state)) →
-    LeavesCopies (λ state. with_hart state h (becomes state)) bus (record bus { agents = with_agent bus.agents h agent })
+    LeavesCopies (λ state. with_hart state h (becomes state)) bus
+    (record bus { agents = with_agent bus.agents h agent })
 leaves_agent bus h agent becomes ready raised armed only = record {
-  ready = ready_agent bus h agent ready (λ request is. sym raised ∙ is) (subst (λ n. n ≤ 15) (sym armed) (ready.few_armed h));
+  ready =
+      ready_agent bus h agent ready (λ request is. sym raised ∙ is)
+      (subst (λ n. n ≤ 15) (sym armed) (ready.few_armed h));
   mode = refl;
   shows = λ state shows.
       let is = only state shows in

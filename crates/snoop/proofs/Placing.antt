@@ -1,7 +1,8 @@
 -- a raised request takes its place in the order
 use Rattle.std.proofs.Common.{◌≡◌, ◌≢◌, ◌∙◌, ℕ, List, length, Option, Some, None, refl, ap, sym, arith, inl, inr}
 use Rattle.std.proofs.lemmas.Bool.{cases_eq, cases_lt}
-use Rattle.bus_order.proofs.Laws.LookUps.{request_of_appended_other, request_of_appended_own, request_of_in_front_of_other, request_of_in_front_of_own}
+use Rattle.bus_order.proofs.Laws.LookUps.{request_of_appended_other, request_of_appended_own}
+use Rattle.bus_order.proofs.Laws.LookUps.{request_of_in_front_of_other, request_of_in_front_of_own}
 use Rattle.bus_order.proofs.Laws.Orders.{one_each_appended, one_each_in_front_of}
 use Rattle.bus_order.specs.Order.{IsOneEach, Request, appended, in_front_of, request_of}
 use Rattle.el_model.specs.Order.{unraised}
@@ -34,8 +35,8 @@ placed_last order request once none = record {
   others = λ h other. request_of_appended_other order request h (λ same. other (sym same));
 }
 
-pub placed_in_front : (order : List Request) (request : Request) → IsOneEach order → request_of order request.hart ≡ None →
-    HasPlaced order (in_front_of order request) request
+pub placed_in_front : (order : List Request) (request : Request) → IsOneEach order →
+    request_of order request.hart ≡ None → HasPlaced order (in_front_of order request) request
 placed_in_front order request once none = record {
   once = one_each_in_front_of order request once none;
   own = request_of_in_front_of_own order request none;
@@ -43,17 +44,19 @@ placed_in_front order request once none = record {
 }
 
 -- a raised request is ordered: it can be served as before, and its hart has raised none any more
-none_raised : (agents : List Agent) (h : ℕ) → (agent_at (with_agent agents h (record (agent_at agents h) { raised = None })) h).raised ≡ None
+none_raised : (agents : List Agent) (h : ℕ) →
+    (agent_at (with_agent agents h (record (agent_at agents h) { raised = None })) h).raised ≡ None
 none_raised agents h =
     let agent = record (agent_at agents h) { raised = None } in
     elim (cases_lt h (length agents)) [
       | inl below ↦ ap (λ a. a.raised) (agent_same agents h agent below)
-      | inr past ↦ ap (λ a. a.raised) (agent_past (with_agent agents h agent) h (omega (arith, past, count_with_agent agents h agent)))
+      | inr past ↦ ap (λ a. a.raised)
+          (agent_past (with_agent agents h agent) h (omega (arith, past, count_with_agent agents h agent)))
     ]
 
 other_raised : (bus : BusState) (request : Request) (h : ℕ) (raised : Request) →
-    (agent_at (with_agent bus.agents request.hart (record (agent_at bus.agents request.hart) { raised = None })) h).raised ≡ Some raised →
-    (h ≢ request.hart) × ((agent_at bus.agents h).raised ≡ Some raised)
+    (agent_at (with_agent bus.agents request.hart (record (agent_at bus.agents request.hart) { raised = None }))
+    h).raised ≡ Some raised → (h ≢ request.hart) × ((agent_at bus.agents h).raised ≡ Some raised)
 other_raised bus request h raised is =
     let agent = record (agent_at bus.agents request.hart) { raised = None } in
     elim (cases_eq h request.hart) [
@@ -69,7 +72,8 @@ other_raised bus request h raised is =
     not_both (Some other) first second = absurd (cc)
 
 ready_ordered : (bus : BusState) (request : Request) (order : List Request) → IsReady bus →
-    (agent_at bus.agents request.hart).raised ≡ Some request → HasPlaced bus.order order request → IsReady (ordered_as bus request order)
+    (agent_at bus.agents request.hart).raised ≡ Some request → HasPlaced bus.order order request →
+    IsReady (ordered_as bus request order)
 ready_ordered bus request order ready raised placed = record {
   few = omega (arith, count, ready.few);
   each = ready.each ∙ sym count;
@@ -86,24 +90,30 @@ ready_ordered bus request order ready raised placed = record {
   one_request = λ h other is.
       let before = other_raised bus request h other is in
       placed.others h before.0 ∙ ready.one_request h other before.1;
-  few_armed = few_armed_yet bus.agents request.hart (record (agent_at bus.agents request.hart) { raised = None }) ready.few_armed
+  few_armed =
+      few_armed_yet bus.agents request.hart (record (agent_at bus.agents request.hart) { raised = None })
+      ready.few_armed
       (ready.few_armed request.hart);
   unmarked = ready.unmarked;
 }
   where
-    count : length (with_agent bus.agents request.hart (record (agent_at bus.agents request.hart) { raised = None })) ≡ length bus.agents
+    count : length (with_agent bus.agents request.hart (record (agent_at bus.agents request.hart) { raised = None }))
+        ≡ length bus.agents
     count = count_with_agent bus.agents request.hart _
 
     still : (h : ℕ) (other : Request) → CanBeServed bus h other → CanBeServed (ordered_as bus request order) h other
-    still h other can = served_yet bus (ordered_as bus request order) h other count (λ inside. inside) (λ room. room) can
+    still h other can =
+        served_yet bus (ordered_as bus request order) h other count (λ inside. inside) (λ room. room) can
 
 -- it is shown so where the state's order is this one
-shows_ordered : (bus : BusState) (state : ModelState) (request : Request) (order told : List Request) → Shows bus state → order ≡ told →
+shows_ordered : (bus : BusState) (state : ModelState) (request : Request) (order told : List Request) →
+    Shows bus state → order ≡ told →
     Shows (ordered_as bus request order) (record (unraised state request.hart) { order = told })
 shows_ordered bus state request order told shows is =
     let quiet : Agent → Agent = λ agent. record agent { raised = None } in
     let shown =
-    shows_agent bus state request.hart (quiet (agent_at bus.agents request.hart)) (record (hart_of state request.hart) { raised = None }) shows
+    shows_agent bus state request.hart (quiet (agent_at bus.agents request.hart))
+    (record (hart_of state request.hart) { raised = None }) shows
     (ap quiet (shows.agents request.hart)) refl refl refl in
     record {
       mode = shown.mode;
@@ -120,27 +130,33 @@ shows_ordered bus state request order told shows is =
 
 -- so it is left, whichever place the request gets
 pub leaves_ordered : (places : List Request → List Request) (bus : BusState) (request : Request) →
-    ((order : List Request) → IsOneEach order → request_of order request.hart ≡ None → HasPlaced order (places order) request) →
-    IsReady bus → (agent_at bus.agents request.hart).raised ≡ Some request →
-    LeavesCopies (λ state. record (unraised state request.hart) { order = places state.order }) bus
+    ((order : List Request) → IsOneEach order → request_of order request.hart ≡ None →
+    HasPlaced order (places order) request) → IsReady bus → (agent_at bus.agents request.hart).raised
+    ≡ Some request → LeavesCopies (λ state. record (unraised state request.hart) { order = places state.order }) bus
     (ordered_as bus request (places bus.order))
 leaves_ordered places bus request placed ready raised = record {
   ready = ready_ordered bus request (places bus.order) ready raised
       (placed bus.order ready.once (ready.one_request request.hart request raised));
   mode = refl;
-  shows = λ state shows. shows_ordered bus state request (places bus.order) (places state.order) shows (ap places shows.order);
+  shows =
+      λ state shows. shows_ordered bus state request (places bus.order) (places state.order) shows
+      (ap places shows.order);
   copies_stay = refl;
 }
 
 -- a marker that is sent
 abbrev pub with_marker : BusState → ℕ → ℕ → BusState
-with_marker bus from to = record bus { agents = with_agent bus.agents to (agent_posted (Marker from) (agent_at bus.agents to)) }
+with_marker bus from to =
+    record bus { agents = with_agent bus.agents to (agent_posted (Marker from) (agent_at bus.agents to)) }
 
 pub ready_marker : (bus : BusState) (from to : ℕ) → IsReady bus → IsReady (with_marker bus from to)
-ready_marker bus from to ready = ready_agent bus to (agent_posted (Marker from) (agent_at bus.agents to)) ready (λ request is. is) (ready.few_armed to)
+ready_marker bus from to ready =
+    ready_agent bus to (agent_posted (Marker from) (agent_at bus.agents to)) ready (λ request is. is)
+    (ready.few_armed to)
 
 pub shows_marker : (bus : BusState) (state : ModelState) (from to : ℕ) → Shows bus state →
-    Shows (with_marker bus from to) (with_hart state to (record (hart_of state to) { mail = posted (hart_of state to).mail (Marker from) }))
+    Shows (with_marker bus from to)
+    (with_hart state to (record (hart_of state to) { mail = posted (hart_of state to).mail (Marker from) }))
 shows_marker bus state from to shows =
     shows_agent bus state to (agent_posted (Marker from) (agent_at bus.agents to))
     (record (hart_of state to) { mail = posted (hart_of state to).mail (Marker from) }) shows

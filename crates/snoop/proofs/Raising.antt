@@ -18,8 +18,9 @@ raising bus request = record (agent_at bus.agents request.hart) { raised = Some 
 abbrev pub raised_in : BusState → Request → BusState
 raised_in bus request = record bus { agents = with_agent bus.agents request.hart (raising bus request) }
 
-pub ready_raised : (bus : BusState) (request : Request) → IsReady bus → request.hart < length bus.agents → HasNoRequest bus request.hart →
-    LiesIn bus.copies request.line → has_room_in bus.copies request.hart request.line ≡ true → IsReady (raised_in bus request)
+pub ready_raised : (bus : BusState) (request : Request) → IsReady bus → request.hart < length bus.agents →
+    HasNoRequest bus request.hart → LiesIn bus.copies request.line →
+    has_room_in bus.copies request.hart request.line ≡ true → IsReady (raised_in bus request)
 ready_raised bus request ready inside none in_memory room = record {
   few = omega (arith, count, ready.few);
   each = ready.each ∙ sym count;
@@ -34,7 +35,8 @@ ready_raised bus request ready inside none in_memory room = record {
     | inl own ↦ ap (request_of bus.order) own ∙ none.none_ordered
     | inr apart ↦ ready.one_request h other (before h other apart is)
   ];
-  few_armed = few_armed_yet bus.agents request.hart (raising bus request) ready.few_armed (ready.few_armed request.hart);
+  few_armed =
+      few_armed_yet bus.agents request.hart (raising bus request) ready.few_armed (ready.few_armed request.hart);
   unmarked = ready.unmarked;
 }
   where
@@ -50,7 +52,8 @@ ready_raised bus request ready inside none in_memory room = record {
     before : (h : ℕ) (other : Request) → h ≢ request.hart →
         (agent_at (with_agent bus.agents request.hart (raising bus request)) h).raised ≡ Some other →
         (agent_at bus.agents h).raised ≡ Some other
-    before h other apart is = ap (λ a. a.raised) (sym (agent_other bus.agents request.hart h (raising bus request) apart)) ∙ is
+    before h other apart is =
+        ap (λ a. a.raised) (sym (agent_other bus.agents request.hart h (raising bus request) apart)) ∙ is
 
     same : (one other : Request) → Some one ≡ Some other → one ≡ other
     same one other is = cc
@@ -65,13 +68,16 @@ ready_raised bus request ready inside none in_memory room = record {
 
 -- a hart that holds nothing has missed a line, with the stamp of its open attempt
 abbrev asking : ℕ → ℕ → Need → Agent → Agent
-asking h line need agent = record agent { raised = Some (record { hart = h; line = line; need = need; stamp = agent.attempt }) }
+asking h line need agent =
+    record agent { raised = Some (record { hart = h; line = line; need = need; stamp = agent.attempt }) }
 
-pub shows_raised : (bus : BusState) (state : ModelState) (h line : ℕ) (need : Need) → Shows bus state → (agent_at bus.agents h).held_line ≡ None →
+pub shows_raised : (bus : BusState) (state : ModelState) (h line : ℕ) (need : Need) → Shows bus state →
+    (agent_at bus.agents h).held_line ≡ None →
     Shows (raised_in bus (record { hart = h; line = line; need = need; stamp = (agent_at bus.agents h).attempt }))
     (with_hart state h (missed_hart h line need (hart_of state h)))
 shows_raised bus state h line need shows nothing =
-    shows_agent bus state h (asking h line need (agent_at bus.agents h)) (missed_hart h line need (hart_of state h)) shows
+    shows_agent bus state h (asking h line need (agent_at bus.agents h))
+    (missed_hart h line need (hart_of state h)) shows
     (ap (asking h line need) (shows.agents h)
     ∙ ap (λ held. record (asking h line need (agent_of (hart_of state h))) { held_line = held })
     (sym (ap (λ agent. agent.held_line) (shows.agents h)) ∙ nothing))

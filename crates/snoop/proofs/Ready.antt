@@ -1,5 +1,6 @@
 -- what a call leaves is ready for the next one
-use Rattle.std.proofs.Common.{◌≡◌, ◌∙◌, ℕ, ◌<◌, ◌≤◌, true, List, length, Option, Some, None, refl, ap, sym, subst, inl, inr, arith}
+use Rattle.std.proofs.Common.{◌≡◌, ◌∙◌, ℕ, ◌<◌, ◌≤◌, true, List, length, Option, Some, None, refl, ap, sym, subst, inl}
+use Rattle.std.proofs.Common.{inr, arith}
 use Rattle.std.proofs.lemmas.Bool.{cases_eq, cases_lt}
 use Rattle.bus_order.specs.Order.{IsOneEach, Request, request_of}
 use Rattle.residency.specs.WellFormed.{IsWellFormed}
@@ -18,11 +19,14 @@ pub record AsksNoMore (bus new : BusState) : Type 0 where
   pub mode : new.mode ≡ bus.mode
   pub agent_each : length new.agents ≡ length bus.agents
   pub cache_each : length new.copies.caches ≡ length bus.copies.caches
-  pub well_formed : (h : ℕ) → h < length new.copies.caches → IsWellFormed (slotted_at new.copies.caches h).ways (slotted_at new.copies.caches h).residency
+  pub well_formed : (h : ℕ) → h < length new.copies.caches →
+      IsWellFormed (slotted_at new.copies.caches h).ways (slotted_at new.copies.caches h).residency
   pub inside : (line : ℕ) → LiesIn bus.copies line → LiesIn new.copies line
   pub once : IsOneEach new.order
-  pub raised : (h : ℕ) (request : Request) → (agent_at new.agents h).raised ≡ Some request → Stood bus new h (agent_at bus.agents h).raised request
-  pub ordered : (h : ℕ) (request : Request) → request_of new.order h ≡ Some request → Stood bus new h (request_of bus.order h) request
+  pub raised : (h : ℕ) (request : Request) → (agent_at new.agents h).raised ≡ Some request →
+      Stood bus new h (agent_at bus.agents h).raised request
+  pub ordered : (h : ℕ) (request : Request) → request_of new.order h ≡ Some request →
+      Stood bus new h (request_of bus.order h) request
   pub few_armed : (h : ℕ) → (agent_at new.agents h).armed ≤ 15
   pub unmarked : (h : ℕ) → IsUnmarked bus.copies h → IsUnmarked new.copies h
 
@@ -43,16 +47,20 @@ ready_after bus new ready after = record {
   each = after.cache_each ∙ ready.each ∙ sym after.agent_each;
   well_formed = after.well_formed;
   raised = λ h request is. let stood = after.raised h request is in
-      served_yet bus new h request after.agent_each (after.inside request.line) stood.room (ready.raised h request stood.is);
+      served_yet bus new h request after.agent_each (after.inside request.line) stood.room
+      (ready.raised h request stood.is);
   ordered = λ h request is. let stood = after.ordered h request is in
-      served_yet bus new h request after.agent_each (after.inside request.line) stood.room (ready.ordered h request stood.is);
+      served_yet bus new h request after.agent_each (after.inside request.line) stood.room
+      (ready.ordered h request stood.is);
   once = after.once;
-  one_request = λ h request is. none h (request_of new.order h) refl (ready.one_request h request (after.raised h request is).is);
+  one_request =
+      λ h request is. none h (request_of new.order h) refl (ready.one_request h request (after.raised h request is).is);
   few_armed = after.few_armed;
   unmarked = λ plain h. after.unmarked h (ready.unmarked (sym after.mode ∙ plain) h);
 }
   where
-    none : (h : ℕ) (found : Option Request) → request_of new.order h ≡ found → request_of bus.order h ≡ None → request_of new.order h ≡ None
+    none : (h : ℕ) (found : Option Request) → request_of new.order h ≡ found → request_of bus.order h ≡ None →
+        request_of new.order h ≡ None
     none h None is before = is
     none h (Some other) is before = absurd (both (request_of bus.order h) before (after.ordered h other is).is)
       where
@@ -61,24 +69,26 @@ ready_after bus new ready after = record {
         both (Some request) first second = absurd (cc)
 
 -- the counts that are noted, after one agent has changed
-pub few_armed_yet : (agents : List Agent) (h : ℕ) (agent : Agent) → ((g : ℕ) → (agent_at agents g).armed ≤ 15) → agent.armed ≤ 15 →
-    (g : ℕ) → (agent_at (with_agent agents h agent) g).armed ≤ 15
+pub few_armed_yet : (agents : List Agent) (h : ℕ) (agent : Agent) → ((g : ℕ) → (agent_at agents g).armed ≤ 15) →
+    agent.armed ≤ 15 → (g : ℕ) → (agent_at (with_agent agents h agent) g).armed ≤ 15
 few_armed_yet agents h agent few here g = elim (cases_eq g h) [
   | inl own ↦ elim (cases_lt h (length agents)) [
     | inl below ↦
-        subst (λ a. a.armed ≤ 15) (sym (ap (agent_at (with_agent agents h agent)) own ∙ agent_same agents h agent below)) here
+        subst (λ a. a.armed ≤ 15)
+        (sym (ap (agent_at (with_agent agents h agent)) own ∙ agent_same agents h agent below)) here
     | inr past ↦
         subst (λ a. a.armed ≤ 15)
         (agent_past agents g (omega (arith, past, own))
-        ∙ sym (agent_past (with_agent agents h agent) g (omega (arith, past, own, count_with_agent agents h agent)))) (few g)
+        ∙ sym (agent_past (with_agent agents h agent) g (omega (arith, past, own, count_with_agent agents h agent))))
+        (few g)
   ]
   | inr other ↦ subst (λ a. a.armed ≤ 15) (sym (agent_other agents h g agent other)) (few g)
 ]
 
 -- one agent has changed, and has raised no other request
 pub asks_agent : (bus : BusState) (h : ℕ) (agent : Agent) → IsReady bus →
-    ((request : Request) → agent.raised ≡ Some request → (agent_at bus.agents h).raised ≡ Some request) → agent.armed ≤ 15 →
-    AsksNoMore bus (record bus { agents = with_agent bus.agents h agent })
+    ((request : Request) → agent.raised ≡ Some request → (agent_at bus.agents h).raised ≡ Some request) →
+    agent.armed ≤ 15 → AsksNoMore bus (record bus { agents = with_agent bus.agents h agent })
 asks_agent bus h agent ready raises few = record {
   mode = refl;
   agent_each = count_with_agent bus.agents h agent;
@@ -101,12 +111,13 @@ asks_agent bus h agent ready raises few = record {
                 ∙ raises request (sym (ap (λ a. a.raised) (ap (agent_at (with_agent bus.agents h agent)) own
                 ∙ agent_same bus.agents h agent below)) ∙ is)
             | inr past ↦ ap (λ a. a.raised) (agent_past bus.agents g (omega (arith, past, own))
-                ∙ sym (agent_past (with_agent bus.agents h agent) g (omega (arith, past, own, count_with_agent bus.agents h agent)))) ∙ is
+                ∙ sym (agent_past (with_agent bus.agents h agent) g
+                (omega (arith, past, own, count_with_agent bus.agents h agent)))) ∙ is
           ]
           | inr other ↦ ap (λ a. a.raised) (sym (agent_other bus.agents h g agent other)) ∙ is
         ]
 
 pub ready_agent : (bus : BusState) (h : ℕ) (agent : Agent) → IsReady bus →
-    ((request : Request) → agent.raised ≡ Some request → (agent_at bus.agents h).raised ≡ Some request) → agent.armed ≤ 15 →
-    IsReady (record bus { agents = with_agent bus.agents h agent })
+    ((request : Request) → agent.raised ≡ Some request → (agent_at bus.agents h).raised ≡ Some request) →
+    agent.armed ≤ 15 → IsReady (record bus { agents = with_agent bus.agents h agent })
 ready_agent bus h agent ready raises few = ready_after bus _ ready (asks_agent bus h agent ready raises few)

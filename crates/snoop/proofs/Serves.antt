@@ -1,5 +1,6 @@
 -- the bus shows what the definition makes of a served request, and is ready for what comes next
-use Rattle.std.proofs.Common.{◌≡◌, ◌≢◌, ◌∙◌, ℕ, suc, ◌+◌, ◌<◌, ◌≤◌, ◌==◌, ◌&&◌, ◌||◌, not, Bool, true, false, List, [], ◌∷◌, length}
+use Rattle.std.proofs.Common.{◌≡◌, ◌≢◌, ◌∙◌, ℕ, suc, ◌+◌, ◌<◌, ◌≤◌, ◌==◌, ◌&&◌, ◌||◌, not, Bool, true, false, List, []}
+use Rattle.std.proofs.Common.{◌∷◌, length}
 use Rattle.std.proofs.Common.{Option, Some, None, is_some, refl, ap, sym, subst, inl, inr, arith, if◌then◌else◌}
 use Rattle.std.specs.List.{list_any}
 use Rattle.std.proofs.lemmas.Bool.{cases_eq, cases_lt}
@@ -26,7 +27,8 @@ use Rattle.el_model.specs.Conflicts.{meets_bit}
 use Rattle.el_model.specs.Serve.{Free, bystander, obstacle_to, others_cache, others_have, own_copy, served}
 use Rattle.el_model.specs.Serve.{served_hart, serving, with_claim}
 use Rattle.el_model.specs.Plain.{armed_count}
-use Rattle.el_model.specs.State.{Armed, Hart, ModelState, Section, armed_of, cache_of, count_up, each_hart, hart_of, is_live, section_of}
+use Rattle.el_model.specs.State.{Armed, Hart, ModelState, Section, armed_of, cache_of, count_up, each_hart, hart_of}
+use Rattle.el_model.specs.State.{is_live, section_of}
 use Rattle.el_model.proofs.Laws.HartParts.{claim_armed, claim_section}
 use Rattle.snoop.specs.Agent.{Agent, agent_at, agent_forgetting, agent_of, agent_served}
 use Rattle.snoop.specs.Serving.{CopiesClaim, CopiesServe, Serves, agent_after_serve, agent_claiming}
@@ -58,27 +60,32 @@ claim_ways : (live : Bool) (request : Request) (old new : Copies) → CopiesClai
     (cache_at new.caches g).ways ≡ (cache_at old.caches g).ways
 claim_ways true request old new claim g =
     elim (cases_eq g request.hart) [
-      | inl same ↦ ap (λ k. (cache_at new.caches k).ways) same ∙ claim.own.ways ∙ ap (λ k. (cache_at old.caches k).ways) (sym same)
+      | inl same ↦ ap (λ k. (cache_at new.caches k).ways) same ∙ claim.own.ways
+          ∙ ap (λ k. (cache_at old.caches k).ways) (sym same)
       | inr other ↦ ap (λ cache. cache.ways) (claim.others g other)
     ]
 claim_ways false request old new claim g = ap (λ copies. (cache_at copies.caches g).ways) claim
 
-claim_others : (live : Bool) (request : Request) (old new : Copies) → CopiesClaim live request old new → (g : ℕ) → g ≢ request.hart →
-    cache_at new.caches g ≡ cache_at old.caches g
+claim_others : (live : Bool) (request : Request) (old new : Copies) → CopiesClaim live request old new → (g : ℕ) →
+    g ≢ request.hart → cache_at new.caches g ≡ cache_at old.caches g
 claim_others true request old new claim g other = claim.others g other
 claim_others false request old new claim g other = ap (λ copies. cache_at copies.caches g) claim
 
 claim_own : (live : Bool) (request : Request) (old new : Copies) → CopiesClaim live request old new →
-    (cache_at new.caches request.hart).residency ≡ claimed_cache live request.line request.need (cache_at old.caches request.hart).residency
+    (cache_at new.caches request.hart).residency ≡ claimed_cache live request.line request.need
+    (cache_at old.caches request.hart).residency
 claim_own true request old new claim = claim.own.residency
 claim_own false request old new claim = ap (λ copies. (cache_at copies.caches request.hart).residency) claim
 
-claim_stays : (live : Bool) (request : Request) (old new : Copies) → CopiesClaim live request old new → StaysCoherent old new
+claim_stays : (live : Bool) (request : Request) (old new : Copies) → CopiesClaim live request old new →
+    StaysCoherent old new
 claim_stays true request old new claim = claim.stays
 claim_stays false request old new claim =
-    subst (λ copies. StaysCoherent old copies) (sym claim) (record { first = refl; lines = refl; caches = refl; coherent = λ bytes was. was })
+    subst (λ copies. StaysCoherent old copies) (sym claim)
+    (record { first = refl; lines = refl; caches = refl; coherent = λ bytes was. was })
 
-copies_stay : (live : Bool) (request : Request) (old new : Copies) → CopiesServe live request old new → StaysCoherent old new
+copies_stay : (live : Bool) (request : Request) (old new : Copies) → CopiesServe live request old new →
+    StaysCoherent old new
 copies_stay live request old new serve =
     let first = serve.served.stays in
     let second = claim_stays live request serve.filled new serve.claimed in
@@ -90,7 +97,8 @@ copies_stay live request old new serve =
     }
 
 -- main memory after the request was served
-claim_lines : (live : Bool) (request : Request) (old new : Copies) → CopiesClaim live request old new → new.lines ≡ old.lines
+claim_lines : (live : Bool) (request : Request) (old new : Copies) → CopiesClaim live request old new →
+    new.lines ≡ old.lines
 claim_lines true request old new claim = claim.lines
 claim_lines false request old new claim = ap (λ copies. copies.lines) claim
 
@@ -108,7 +116,8 @@ pub record ServeStays (before after : Pooled) (old new : Holding) : Type 0 where
   pub caches : length new.caches ≡ length old.caches
   pub told : (bytes : ℕ → List ℕ) → TellsIn before old bytes → TellsIn after new bytes
 
-module _ (bus new : BusState) (request : Request) (before after : Pooled) (serves : Serves request before after bus new) where
+module _ (bus new : BusState) (request : Request) (before after : Pooled)
+    (serves : Serves request before after bus new) where
   abbrev lived : Bool
   lived = lives_at bus request.hart
 
@@ -130,7 +139,8 @@ module _ (bus new : BusState) (request : Request) (before after : Pooled) (serve
       stays = copies_stay lived request old_copies new_copies serves.copies
 
   pub serve_lines : new.copies.lines ≡ lines_after request.hart request.line (lent_copies before bus.copies)
-  serve_lines = claim_lines lived request serves.copies.filled new_copies serves.copies.claimed ∙ serves.copies.served.memory
+  serve_lines =
+      claim_lines lived request serves.copies.filled new_copies serves.copies.claimed ∙ serves.copies.served.memory
 
   serve_ways : (g : ℕ) → (slotted_at new.copies.caches g).ways ≡ (slotted_at bus.copies.caches g).ways
   serve_ways g =
@@ -145,18 +155,22 @@ module _ (bus new : BusState) (request : Request) (before after : Pooled) (serve
       (slotted_at bus.copies.caches g).residency request.line
   serve_others g other =
       sym (residency_at after new.copies.caches g)
-      ∙ ap (λ (cache : Cached). cache.residency) (claim_others lived request serves.copies.filled new_copies serves.copies.claimed g other)
+      ∙ ap (λ (cache : Cached). cache.residency)
+      (claim_others lived request serves.copies.filled new_copies serves.copies.claimed g other)
       ∙ serves.copies.served.others g other
-      ∙ ap (λ cache. others_cache (is_resident cache request.line) request.need (cache_at old_copies.caches g).residency request.line)
+      ∙ ap (λ cache. others_cache (is_resident cache request.line) request.need
+      (cache_at old_copies.caches g).residency request.line)
       (residency_at before bus.copies.caches request.hart)
-      ∙ ap (λ cache. others_cache (is_resident (slotted_at bus.copies.caches request.hart).residency request.line) request.need cache request.line)
+      ∙ ap (λ cache. others_cache (is_resident (slotted_at bus.copies.caches request.hart).residency request.line)
+      request.need cache request.line)
       (residency_at before bus.copies.caches g)
 
   -- the cache of the served hart before it is claimed
   filled_is : (cache_at serves.copies.filled.caches request.hart).residency ≡ own_filled before bus request
   filled_is =
       serves.copies.served.own
-      ∙ ap (λ (cache : Cached). own_after cache.ways (copies.others_have old_copies.caches request.hart request.line) request.need
+      ∙ ap (λ (cache : Cached). own_after cache.ways
+      (copies.others_have old_copies.caches request.hart request.line) request.need
       cache.residency request.line) (lent_at before bus.copies.caches request.hart)
 
   filled_here : is_resident (own_filled before bus request) request.line ≡ true
@@ -170,25 +184,29 @@ module _ (bus new : BusState) (request : Request) (before after : Pooled) (serve
       ∙ ap (claimed_cache lived request.line request.need) filled_is
 
 -- whether another hart has a copy, as the caches tell it and as the definition does
-others_all : (test : ℕ → Bool) (h line from : ℕ) (caches : List Cached) (harts : List Hart) → length caches ≡ length harts →
-    ((k number : ℕ) → number ≡ from + k → (not (number == h) && is_resident (cache_at caches k).residency line) ≡ test number) →
-    others_from from caches h line ≡ list_any test (count_up from harts)
+others_all : (test : ℕ → Bool) (h line from : ℕ) (caches : List Cached) (harts : List Hart) →
+    length caches ≡ length harts →
+    ((k number : ℕ) → number ≡ from + k → (not (number == h) && is_resident (cache_at caches k).residency line)
+    ≡ test number) → others_from from caches h line ≡ list_any test (count_up from harts)
 others_all test h line from [] [] same each = refl
 others_all test h line from [] (hart ∷ harts) same each = absurd (omega (arith, same))
 others_all test h line from (cache ∷ caches) [] same each = absurd (omega (arith, same))
 others_all test h line from (cache ∷ caches) (hart ∷ harts) same each =
     ap (λ first. first || others_from (suc from) caches h line) (each 0 from (omega arith))
     ∙ ap (λ rest. test from || rest)
-    (others_all test h line (suc from) caches harts (omega (arith, same)) (λ k number is. each (suc k) number (omega (arith, is))))
+    (others_all test h line (suc from) caches harts (omega (arith, same))
+    (λ k number is. each (suc k) number (omega (arith, is))))
 
 others_same : (pool : Pooled) (bus : BusState) (state : ModelState) (h line : ℕ) → Shows bus state →
     copies.others_have (lent_all pool bus.copies.caches) h line ≡ others_have state h line
 others_same pool bus state h line shows =
-    others_all (λ other. not (other == h) && is_resident (cache_of state other) line) h line 0 (lent_all pool bus.copies.caches) state.harts
+    others_all (λ other. not (other == h) && is_resident (cache_of state other) line) h line 0
+    (lent_all pool bus.copies.caches) state.harts
     (length-lent pool bus.copies.caches ∙ shows.cache_each)
     (λ k number is. let same : k ≡ number = omega (arith, is) in
     ap (λ cache. not (number == h) && is_resident cache line)
-    (residency_at pool bus.copies.caches k ∙ ap (λ n. (slotted_at bus.copies.caches n).residency) same ∙ shows.caches number))
+    (residency_at pool bus.copies.caches k ∙ ap (λ n. (slotted_at bus.copies.caches n).residency) same
+    ∙ shows.caches number))
 
 -- the definition's hart after its request was served
 claim_cache : (live : Bool) (request : Request) (hart : Hart) →
@@ -196,7 +214,8 @@ claim_cache : (live : Bool) (request : Request) (hart : Hart) →
 claim_cache true request hart = refl
 claim_cache false request hart = refl
 
-claim_agent : (live : Bool) (request : Request) (hart : Hart) → agent_of (with_claim live request hart) ≡ agent_claiming live request.line (agent_of hart)
+claim_agent : (live : Bool) (request : Request) (hart : Hart) →
+    agent_of (with_claim live request hart) ≡ agent_claiming live request.line (agent_of hart)
 claim_agent true request hart = refl
 claim_agent false request hart = refl
 
@@ -217,34 +236,44 @@ unmet bus state request g ready shows ordered free unarmed apart write = by (sec
         (ap (λ order. request_of order request.hart) (sym shows.order) ∙ ordered) free apart live
 
 -- the part of the bus that a served request changes, hart by hart
-served_agent : (state : ModelState) (request : Request) (g : ℕ) (hart : Hart) → (g ≡ request.hart → hart ≡ hart_of state g) →
+served_agent : (state : ModelState) (request : Request) (g : ℕ) (hart : Hart) →
+    (g ≡ request.hart → hart ≡ hart_of state g) →
     agent_after_serve (is_live state request.hart) request g (agent_of hart) ≡ agent_of (serving state request g hart)
 served_agent state request g hart is =
     elim (cases_eq g request.hart) [
       | inl same ↦ let live : is_live state request.hart ≡ is_some hart.section = ap (is_live state) (sym same)
           ∙ ap (λ k. is_some k.section) (sym (is same)) in
           at_own g request.hart _ _ same
-          ∙ ap (λ lives. agent_claiming lives request.line (agent_served (agent_forgetting request.hart (agent_of hart)))) live
+          ∙ ap (λ lives. agent_claiming lives request.line
+          (agent_served (agent_forgetting request.hart (agent_of hart)))) live
           ∙ sym (claim_agent (is_some hart.section) request _)
-          ∙ ap agent_of (sym (at_own g request.hart (served_hart state request hart) (bystander state request hart) same))
+          ∙ ap agent_of
+          (sym (at_own g request.hart (served_hart state request hart) (bystander state request hart) same))
       | inr other ↦ at_other g request.hart _ _ other
-          ∙ ap agent_of (sym (at_other g request.hart (served_hart state request hart) (bystander state request hart) other))
+          ∙ ap agent_of
+          (sym (at_other g request.hart (served_hart state request hart) (bystander state request hart) other))
     ]
 
-serving_section : (state : ModelState) (request : Request) (g : ℕ) (hart : Hart) → (serving state request g hart).section ≡ hart.section
+serving_section : (state : ModelState) (request : Request) (g : ℕ) (hart : Hart) →
+    (serving state request g hart).section ≡ hart.section
 serving_section state request g hart =
     elim (cases_eq g request.hart) [
-      | inl same ↦ ap (λ k. k.section) (at_own g request.hart (served_hart state request hart) (bystander state request hart) same)
+      | inl same ↦ ap (λ k. k.section)
+          (at_own g request.hart (served_hart state request hart) (bystander state request hart) same)
           ∙ claim_section (is_some hart.section) request _
-      | inr other ↦ ap (λ k. k.section) (at_other g request.hart (served_hart state request hart) (bystander state request hart) other)
+      | inr other ↦ ap (λ k. k.section)
+          (at_other g request.hart (served_hart state request hart) (bystander state request hart) other)
     ]
 
-serving_armed : (state : ModelState) (request : Request) (g : ℕ) (hart : Hart) → (serving state request g hart).armed ≡ hart.armed
+serving_armed : (state : ModelState) (request : Request) (g : ℕ) (hart : Hart) →
+    (serving state request g hart).armed ≡ hart.armed
 serving_armed state request g hart =
     elim (cases_eq g request.hart) [
-      | inl same ↦ ap (λ k. k.armed) (at_own g request.hart (served_hart state request hart) (bystander state request hart) same)
+      | inl same ↦
+          ap (λ k. k.armed) (at_own g request.hart (served_hart state request hart) (bystander state request hart) same)
           ∙ claim_armed (is_some hart.section) request _
-      | inr other ↦ ap (λ k. k.armed) (at_other g request.hart (served_hart state request hart) (bystander state request hart) other)
+      | inr other ↦ ap (λ k. k.armed)
+          (at_other g request.hart (served_hart state request hart) (bystander state request hart) other)
     ]
 
 -- the residency of each cache is the definition's
@@ -256,28 +285,39 @@ served_cache bus new state request before after ready shows exists serves g belo
     elim (cases_eq g request.hart) [
       | inl same ↦ ap (λ k. (slotted_at new.copies.caches k).residency) same
           ∙ serve_own bus new request before after serves
-          ∙ ap (λ live. claimed_cache live request.line request.need (own_filled before bus request)) (lives_shown bus state request.hart shows)
+          ∙ ap (λ live. claimed_cache live request.line request.need (own_filled before bus request))
+          (lives_shown bus state request.hart shows)
           ∙ ap (claimed_cache (is_live state request.hart) request.line request.need) filled
           ∙ sym (claim_cache (is_live state request.hart) request _)
           ∙ sym (ap (λ k. k.cache) (at_own request.hart request.hart
-          (served_hart state request (hart_of state request.hart)) (bystander state request (hart_of state request.hart)) refl))
+          (served_hart state request (hart_of state request.hart))
+          (bystander state request (hart_of state request.hart)) refl))
           ∙ ap (λ k. (serving state request k (hart_of state k)).cache) (sym same)
       | inr other ↦ serve_others bus new request before after serves g other
-          ∙ ap (λ cache. others_cache (is_resident (slotted_at bus.copies.caches request.hart).residency request.line) request.need cache request.line)
+          ∙ ap (λ cache. others_cache (is_resident (slotted_at bus.copies.caches request.hart).residency request.line)
+          request.need cache request.line)
           (shows.caches g)
-          ∙ ap (λ cache. others_cache (is_resident cache request.line) request.need (cache_of state g) request.line) (shows.caches request.hart)
-          ∙ ap (λ k. k.cache) (sym (at_other g request.hart (served_hart state request (hart_of state g)) (bystander state request (hart_of state g)) other))
+          ∙ ap (λ cache. others_cache (is_resident cache request.line) request.need (cache_of state g) request.line)
+          (shows.caches request.hart)
+          ∙ ap (λ k. k.cache)
+          (sym (at_other g request.hart (served_hart state request (hart_of state g))
+          (bystander state request (hart_of state g)) other))
     ]
   where
     filled : own_filled before bus request
         ≡ touched
-        (own_copy state.config.ways (others_have state request.hart request.line) request.need (cache_of state request.hart) request.line) request.line
+        (own_copy state.config.ways (others_have state request.hart request.line) request.need
+        (cache_of state request.hart) request.line) request.line
     filled =
-        ap (λ ways. own_after ways (copies.others_have (lent_all before bus.copies.caches) request.hart request.line) request.need
-        (slotted_at bus.copies.caches request.hart).residency request.line) (shows.ways request.hart (omega (arith, exists, shows.agent_each)))
-        ∙ ap (λ others. own_after state.config.ways others request.need (slotted_at bus.copies.caches request.hart).residency request.line)
+        ap (λ ways. own_after ways (copies.others_have (lent_all before bus.copies.caches) request.hart request.line)
+        request.need
+        (slotted_at bus.copies.caches request.hart).residency request.line) (shows.ways request.hart
+        (omega (arith, exists, shows.agent_each)))
+        ∙ ap (λ others. own_after state.config.ways others request.need
+        (slotted_at bus.copies.caches request.hart).residency request.line)
         (others_same before bus state request.hart request.line shows)
-        ∙ ap (λ cache. own_after state.config.ways (others_have state request.hart request.line) request.need cache request.line) (shows.caches request.hart)
+        ∙ ap (λ cache. own_after state.config.ways (others_have state request.hart request.line) request.need cache
+        request.line) (shows.caches request.hart)
 
 -- a cache of a hart that is not armed has a bit where it had one
 served_marks : (bus new : BusState) (state : ModelState) (request : Request) (before after : Pooled) → IsReady bus →
@@ -294,15 +334,18 @@ served_marks bus new state request before after ready shows ordered free serves 
           (noted request.hart ∙ ap (λ k. armed_count (armed_of state k)) (sym same) ∙ unarmed)))
           ∙ ap (λ k. has_marks (slotted_at bus.copies.caches k).residency) (sym same)
       | inr other ↦ ap has_marks (serve_others bus new request before after serves g other)
-          ∙ others_marks (slotted_at bus.copies.caches g).ways _ request.need (slotted_at bus.copies.caches g).residency request.line
+          ∙ others_marks (slotted_at bus.copies.caches g).ways _ request.need
+          (slotted_at bus.copies.caches g).residency request.line
           (ready.well_formed g (omega (arith, below, ready.each)))
-          (λ write. ap (λ cache. has_bit cache request.line) (shows.caches g) ∙ unmet bus state request g ready shows ordered free unarmed other write)
+          (λ write. ap (λ cache. has_bit cache request.line) (shows.caches g)
+          ∙ unmet bus state request g ready shows ordered free unarmed other write)
     ]
   where
     can : CanBeServed bus request.hart request
     can = ready.ordered request.hart request ordered
 
-    well : IsWellFormed (slotted_at bus.copies.caches request.hart).ways (slotted_at bus.copies.caches request.hart).residency
+    well : IsWellFormed (slotted_at bus.copies.caches request.hart).ways
+        (slotted_at bus.copies.caches request.hart).residency
     well = ready.well_formed request.hart (omega (arith, can.hart_exists, ready.each))
 
     noted : (h : ℕ) → (agent_at bus.agents h).armed ≡ armed_count (armed_of state h)
@@ -312,7 +355,8 @@ served_marks bus new state request before after ready shows ordered free serves 
         has_marks (claimed_cache live request.line request.need (own_filled before bus request))
         ≡ has_marks (slotted_at bus.copies.caches request.hart).residency
     claimed true is =
-        has_marks-marked (slotted_at bus.copies.caches request.hart).ways (own_filled before bus request) request.line request.need
+        has_marks-marked (slotted_at bus.copies.caches request.hart).ways (own_filled before bus request)
+        request.line request.need
         (own_after_well_formed (slotted_at bus.copies.caches request.hart).ways _ request.need
         (slotted_at bus.copies.caches request.hart).residency request.line well can.room)
         (filled_here bus new request before after serves) ∙ sym is
@@ -357,17 +401,19 @@ served_tells bus new state request before after ready shows ordered free serves 
     record {
       live =
           ap is_some (serving_section state request g (hart_of state g)) ∙ shows.live g
-          ∙ lives_alike (cache_of state g) (serving state request g (hart_of state g)).cache (armed_count (armed_of state g))
+          ∙ lives_alike (cache_of state g) (serving state request g (hart_of state g)).cache
+          (armed_count (armed_of state g))
           (λ unarmed. ap has_marks (sym (shows.caches g))
           ∙ sym (served_marks bus new state request before after ready shows ordered free serves g below unarmed)
           ∙ ap has_marks (served_cache bus new state request before after ready shows can.hart_exists serves g below))
-          ∙ ap (λ (found : Option Armed). lives (serving state request g (hart_of state g)).cache (armed_count found)) (sym armed);
+          ∙ ap (λ (found : Option Armed). lives (serving state request g (hart_of state g)).cache (armed_count found))
+          (sym armed);
       arms = rw armed (shows.arms g);
     }
 
 -- the state that is shown
-pub serve_shows : (bus new : BusState) (state : ModelState) (request : Request) (before after : Pooled) → IsReady bus → Shows bus state →
-    request_of bus.order request.hart ≡ Some request → obstacle_to state request ≡ Free →
+pub serve_shows : (bus new : BusState) (state : ModelState) (request : Request) (before after : Pooled) → IsReady bus →
+    Shows bus state → request_of bus.order request.hart ≡ Some request → obstacle_to state request ≡ Free →
     Serves request before after bus new → Shows new (served state request)
 unfolding served
 serve_shows bus new state request before after ready shows ordered free serves =
@@ -386,7 +432,8 @@ serve_shows bus new state request before after ready shows ordered free serves =
       ways = serve_ways bus new request before after serves;
       agents = λ g below.
           serves.agents.each g below
-          ∙ ap (λ live. agent_after_serve live request g (agent_at bus.agents g)) (lives_shown bus state request.hart shows)
+          ∙ ap (λ live. agent_after_serve live request g (agent_at bus.agents g))
+          (lives_shown bus state request.hart shows)
           ∙ ap (agent_after_serve (is_live state request.hart) request g) (shows.agents g)
           ∙ served_agent state request g (hart_of state g) (λ same. refl);
       caches = served_cache bus new state request before after ready shows can.hart_exists serves;
@@ -397,17 +444,21 @@ serve_shows bus new state request before after ready shows ordered free serves =
     }
 
 -- every cache is as it must be
-served_well_formed : (bus new : BusState) (request : Request) (before after : Pooled) → IsReady bus → request_of bus.order request.hart ≡ Some request →
-    Serves request before after bus new → (g : ℕ) → g < length bus.agents →
+served_well_formed : (bus new : BusState) (request : Request) (before after : Pooled) → IsReady bus →
+    request_of bus.order request.hart ≡ Some request → Serves request before after bus new → (g : ℕ) →
+    g < length bus.agents →
     IsWellFormed (slotted_at bus.copies.caches g).ways (slotted_at new.copies.caches g).residency
 served_well_formed bus new request before after ready ordered serves g below =
     elim (cases_eq g request.hart) [
-      | inl same ↦ subst (λ k. IsWellFormed (slotted_at bus.copies.caches k).ways (slotted_at new.copies.caches k).residency) (sym same)
+      | inl same ↦
+          subst (λ k. IsWellFormed (slotted_at bus.copies.caches k).ways (slotted_at new.copies.caches k).residency)
+          (sym same)
           (subst (λ cache. IsWellFormed ways cache) (sym (serve_own bus new request before after serves))
           (claimed (lives_at bus request.hart)))
       | inr other ↦ subst (λ cache. IsWellFormed (slotted_at bus.copies.caches g).ways cache)
           (sym (serve_others bus new request before after serves g other))
-          (others_well_formed (slotted_at bus.copies.caches g).ways _ request.need (slotted_at bus.copies.caches g).residency request.line
+          (others_well_formed (slotted_at bus.copies.caches g).ways _ request.need
+          (slotted_at bus.copies.caches g).residency request.line
           (ready.well_formed g (omega (arith, below, ready.each))))
     ]
   where
@@ -419,7 +470,8 @@ served_well_formed bus new request before after ready ordered serves g below =
 
     filled : IsWellFormed (slotted_at bus.copies.caches request.hart).ways (own_filled before bus request)
     filled =
-        own_after_well_formed (slotted_at bus.copies.caches request.hart).ways _ request.need (slotted_at bus.copies.caches request.hart).residency request.line
+        own_after_well_formed (slotted_at bus.copies.caches request.hart).ways _ request.need
+        (slotted_at bus.copies.caches request.hart).residency request.line
         (ready.well_formed request.hart (omega (arith, can.hart_exists, ready.each))) can.room
 
     claimed : (live : Bool) → IsWellFormed (slotted_at bus.copies.caches request.hart).ways
@@ -432,7 +484,8 @@ armed_claimed : (live : Bool) (line : ℕ) (agent : Agent) → (agent_claiming l
 armed_claimed true line agent = refl
 armed_claimed false line agent = refl
 
-armed_after : (live : Bool) (request : Request) (g : ℕ) (agent : Agent) → (agent_after_serve live request g agent).armed ≡ agent.armed
+armed_after : (live : Bool) (request : Request) (g : ℕ) (agent : Agent) →
+    (agent_after_serve live request g agent).armed ≡ agent.armed
 armed_after live request g agent =
     elim (cases_eq g request.hart) [
       | inl same ↦ ap (λ (a : Agent). a.armed) (at_own g request.hart _ _ same) ∙ armed_claimed live request.line
@@ -444,7 +497,8 @@ raised_claimed : (live : Bool) (line : ℕ) (agent : Agent) → (agent_claiming 
 raised_claimed true line agent = refl
 raised_claimed false line agent = refl
 
-raised_after : (live : Bool) (request : Request) (g : ℕ) (agent : Agent) → (agent_after_serve live request g agent).raised ≡ agent.raised
+raised_after : (live : Bool) (request : Request) (g : ℕ) (agent : Agent) →
+    (agent_after_serve live request g agent).raised ≡ agent.raised
 raised_after live request g agent =
     elim (cases_eq g request.hart) [
       | inl same ↦ ap (λ (a : Agent). a.raised) (at_own g request.hart _ _ same) ∙ raised_claimed live request.line
@@ -452,15 +506,17 @@ raised_after live request g agent =
       | inr other ↦ ap (λ (a : Agent). a.raised) (at_other g request.hart _ _ other)
     ]
 
-pub serve_ready : (bus new : BusState) (request : Request) (before after : Pooled) → IsReady bus → request_of bus.order request.hart ≡ Some request →
-    Serves request before after bus new → IsReady new
+pub serve_ready : (bus new : BusState) (request : Request) (before after : Pooled) → IsReady bus →
+    request_of bus.order request.hart ≡ Some request → Serves request before after bus new → IsReady new
 serve_ready bus new request before after ready ordered serves = ready_after bus new ready (record {
   mode = serves.mode;
   agent_each = serves.agents.count;
   cache_each = stays.caches;
   well_formed = λ g below.
-      subst (λ ways. IsWellFormed ways (slotted_at new.copies.caches g).residency) (sym (serve_ways bus new request before after serves g))
-      (served_well_formed bus new request before after ready ordered serves g (omega (arith, below, stays.caches, ready.each)));
+      subst (λ ways. IsWellFormed ways (slotted_at new.copies.caches g).residency)
+      (sym (serve_ways bus new request before after serves g))
+      (served_well_formed bus new request before after ready ordered serves g
+      (omega (arith, below, stays.caches, ready.each)));
   inside = λ line has. record {
     from = let e = stays.first in rw e has.from;
     below = let e = stays.first in let f = stays.lines in rw (e, f) has.below;
@@ -474,7 +530,8 @@ serve_ready bus new request before after ready ordered serves = ready_after bus 
   ordered = λ g other is. let found = ap (λ order. request_of order g) (sym serves.order) ∙ is in
       elim (cases_eq g request.hart) [
         | inl same ↦ none_nor_some (request_of (removed bus.order request.hart) g) other
-            (ap (request_of (removed bus.order request.hart)) same ∙ request_of_removed_own bus.order request.hart) found
+            (ap (request_of (removed bus.order request.hart)) same ∙ request_of_removed_own bus.order request.hart)
+            found
         | inr apart ↦ record {
           is = sym (request_of_removed_other bus.order request.hart g (λ same. apart (sym same))) ∙ found;
           room = room g other.line apart;
@@ -482,11 +539,14 @@ serve_ready bus new request before after ready ordered serves = ready_after bus 
       ];
   few_armed = λ g. elim (cases_lt g (length bus.agents)) [
     | inl below ↦
-        subst (λ n. n ≤ 15) (sym (ap (λ (a : Agent). a.armed) (serves.agents.each g below) ∙ armed_after _ request g (agent_at bus.agents g)))
+        subst (λ n. n ≤ 15)
+        (sym (ap (λ (a : Agent). a.armed) (serves.agents.each g below)
+        ∙ armed_after _ request g (agent_at bus.agents g)))
         (ready.few_armed g)
     | inr past ↦
         subst (λ (a : Agent). a.armed ≤ 15)
-        (agent_past bus.agents g past ∙ sym (agent_past new.agents g (omega (arith, past, serves.agents.count)))) (ready.few_armed g)
+        (agent_past bus.agents g past ∙ sym (agent_past new.agents g (omega (arith, past, serves.agents.count))))
+        (ready.few_armed g)
   ];
   unmarked = serve_unmarked bus new request before after ready ordered serves;
 })
@@ -494,20 +554,28 @@ serve_ready bus new request before after ready ordered serves = ready_after bus 
     stays : ServeStays before after bus.copies new.copies
     stays = serve_stays bus new request before after serves
 
-    raised_before : (g : ℕ) (other : Request) → (agent_at new.agents g).raised ≡ Some other → (agent_at bus.agents g).raised ≡ Some other
+    raised_before : (g : ℕ) (other : Request) → (agent_at new.agents g).raised ≡ Some other →
+        (agent_at bus.agents g).raised ≡ Some other
     raised_before g other is =
         elim (cases_lt g (length bus.agents)) [
-          | inl below ↦ sym (raised_after _ request g (agent_at bus.agents g)) ∙ ap (λ a. a.raised) (sym (serves.agents.each g below)) ∙ is
+          | inl below ↦ sym (raised_after _ request g (agent_at bus.agents g))
+              ∙ ap (λ a. a.raised) (sym (serves.agents.each g below)) ∙ is
           | inr past ↦ none_nor_some (agent_at new.agents g).raised other
               (ap (λ a. a.raised) (agent_past new.agents g (omega (arith, past, serves.agents.count)))) is
         ]
 
     room : (g line : ℕ) → g ≢ request.hart → has_room_in bus.copies g line ≡ true → has_room_in new.copies g line ≡ true
     room g line apart had =
-        ap (λ ways. room_of ways (slotted_at new.copies.caches g).residency line) (serve_ways bus new request before after serves g)
-        ∙ ap (λ cache. room_of (slotted_at bus.copies.caches g).ways cache line) (serve_others bus new request before after serves g apart)
+        ap (λ ways. room_of ways (slotted_at new.copies.caches g).residency line)
+        (serve_ways bus new request before after serves g)
+        ∙ ap (λ cache. room_of (slotted_at bus.copies.caches g).ways cache line)
+        (serve_others bus new request before after serves g apart)
         ∙ elim (cases_lt g (length bus.copies.caches)) [
-          | inl below ↦ others_room (slotted_at bus.copies.caches g).ways _ request.need (slotted_at bus.copies.caches g).residency request.line line
+          | inl below ↦ others_room (slotted_at bus.copies.caches g).ways _ request.need
+              (slotted_at bus.copies.caches g).residency request.line line
               (ready.well_formed g below) had
-          | inr past ↦ absurd (false_true (ap (λ cache. room_of cache.ways cache.residency line) (sym (beyond bus.copies.caches g past)) ∙ had))
+          | inr past ↦
+              absurd
+              (false_true (ap (λ cache. room_of cache.ways cache.residency line)
+              (sym (beyond bus.copies.caches g past)) ∙ had))
         ]

@@ -11,8 +11,9 @@ pub none_settled : (head : Request) (fate : ℕ → Fate) (bus : BusState) → A
 none_settled head fate bus = no_hart_changed (λ h. settled_agent bus head (fate h)) (λ h. loses (fate h)) bus
 
 -- a hart has its fate by the mode and the order, which are as they were
-pub one_settled : (head : Request) (fate : ℕ → Fate) (h : ℕ) (old mid new : BusState) → AreSettledBelow head fate h old mid →
-    IsSettledAt head (fate h) h mid new → h < length mid.agents → AreSettledBelow head fate (h + 1) old new
+pub one_settled : (head : Request) (fate : ℕ → Fate) (h : ℕ) (old mid new : BusState) →
+    AreSettledBelow head fate h old mid → IsSettledAt head (fate h) h mid new → h < length mid.agents →
+    AreSettledBelow head fate (h + 1) old new
 one_settled head fate h old mid new below at inside =
     one_hart_changed (λ g. settled_agent old head (fate g)) (λ g. loses (fate g)) h old mid new below
     (record {

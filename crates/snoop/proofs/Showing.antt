@@ -1,13 +1,16 @@
 -- what the bus shows after one hart has changed, and after each has
-use Rattle.std.proofs.Common.{◌≡◌, ◌≢◌, ◌∙◌, ℕ, zero, suc, ◌*◌, ◌<◌, ◌≤◌, List, [], ◌∷◌, Option, None, Some, length, refl, ap, sym, subst, inl, inr, arith}
+use Rattle.std.proofs.Common.{◌≡◌, ◌≢◌, ◌∙◌, ℕ, zero, suc, ◌*◌, ◌<◌, ◌≤◌, List, [], ◌∷◌, Option, None, Some, length}
+use Rattle.std.proofs.Common.{refl, ap, sym, subst, inl, inr, arith}
 use Rattle.std.specs.Prelude.{slice_set}
 use Rattle.std.proofs.lemmas.Bool.{cases_eq, cases_lt}
 use Rattle.std.proofs.lemmas.List.{get_or-set_same, get_or-set_other, length-set}
 use Rattle.coherence.specs.Lent.{slotted_at}
 use Rattle.el_base.specs.declared.line.TheConstants.{LINE_BYTES}
 use Rattle.el_model.specs.Attempts.{close_attempt, closed_clock}
-use Rattle.el_model.specs.State.{Hart, ModelState, armed_of, cache_of, each_from, each_hart, hart_of, new_hart, section_of, with_hart}
-use Rattle.el_model.proofs.Laws.Harts.{hart_of-each_hart, hart_of-each_hart_past, hart_of-past, hart_of-with_hart_same, hart_of-with_hart_other, with_hart_kept}
+use Rattle.el_model.specs.State.{Hart, ModelState, armed_of, cache_of, each_from, each_hart, hart_of, new_hart}
+use Rattle.el_model.specs.State.{section_of, with_hart}
+use Rattle.el_model.proofs.Laws.Harts.{hart_of-each_hart, hart_of-each_hart_past, hart_of-past, hart_of-with_hart_same}
+use Rattle.el_model.proofs.Laws.Harts.{hart_of-with_hart_other, with_hart_kept}
 use Rattle.el_model.proofs.Laws.Keeps.{length-each_from}
 use Rattle.snoop.proofs.Lent.{beyond}
 use Rattle.snoop.proofs.Laws.Living.{TellsSection, tells, tells_nothing, tells_yet}
@@ -18,8 +21,8 @@ use Rattle.snoop.specs.Shows.{Holding, BusState, LiesWhere, Shows}
 use Rattle.stamp.specs.Stamps.{Stamp}
 
 -- main memory that has not moved lies where it did
-pub lies_yet : (old new : Holding) (flat : FlatState) → new.first ≡ old.first → length new.lines ≡ length old.lines → LiesWhere old flat →
-    LiesWhere new flat
+pub lies_yet : (old new : Holding) (flat : FlatState) → new.first ≡ old.first → length new.lines ≡ length old.lines →
+    LiesWhere old flat → LiesWhere new flat
 lies_yet old new flat first lines lies = record {
   first = ap (λ n. n * LINE_BYTES) first ∙ lies.first;
   lines = ap (λ n. n * LINE_BYTES) lines ∙ lies.lines;
@@ -32,18 +35,21 @@ agent_past (agent ∷ agents) zero past = absurd (omega arith)
 agent_past (agent ∷ agents) (suc h) past = agent_past agents h (omega arith)
 
 -- an agent after one has become another
-pub agent_same : (agents : List Agent) (h : ℕ) (agent : Agent) → h < length agents → agent_at (with_agent agents h agent) h ≡ agent
+pub agent_same : (agents : List Agent) (h : ℕ) (agent : Agent) → h < length agents →
+    agent_at (with_agent agents h agent) h ≡ agent
 agent_same agents h agent below = get_or-set_same agents h agent new_agent below
 
-pub agent_other : (agents : List Agent) (h g : ℕ) (agent : Agent) → g ≢ h → agent_at (with_agent agents h agent) g ≡ agent_at agents g
+pub agent_other : (agents : List Agent) (h g : ℕ) (agent : Agent) → g ≢ h →
+    agent_at (with_agent agents h agent) g ≡ agent_at agents g
 agent_other agents h g agent differs = get_or-set_other agents h g agent new_agent differs
 
-pub count_with_agent : (agents : List Agent) (h : ℕ) (agent : Agent) → length (with_agent agents h agent) ≡ length agents
+pub count_with_agent : (agents : List Agent) (h : ℕ) (agent : Agent) →
+    length (with_agent agents h agent) ≡ length agents
 count_with_agent agents h agent = length-set agents h agent
 
 -- the state has another committed part, which has the same memory
-pub shows_committed : (bus : BusState) (state : ModelState) (committed : FlatState) → KeepsBytes state.committed committed → Shows bus state →
-    Shows bus (with_committed committed state)
+pub shows_committed : (bus : BusState) (state : ModelState) (committed : FlatState) →
+    KeepsBytes state.committed committed → Shows bus state → Shows bus (with_committed committed state)
 shows_committed bus state committed keeps shows = record {
   mode = shows.mode;
   ways = shows.ways;
@@ -54,12 +60,13 @@ shows_committed bus state committed keeps shows = record {
   live = shows.live;
   arms = shows.arms;
   order = shows.order;
-  memory = record { first = shows.memory.first ∙ sym keeps.base; lines = shows.memory.lines ∙ ap length (sym keeps.bytes) };
+  memory =
+      record { first = shows.memory.first ∙ sym keeps.base; lines = shows.memory.lines ∙ ap length (sym keeps.bytes) };
 }
 
 -- the agent of one hart has changed, and no cache
-pub shows_told : (bus : BusState) (state : ModelState) (h : ℕ) (agent : Agent) (hart : Hart) → Shows bus state → agent ≡ agent_of hart →
-    hart.cache ≡ cache_of state h → TellsSection hart →
+pub shows_told : (bus : BusState) (state : ModelState) (h : ℕ) (agent : Agent) (hart : Hart) → Shows bus state →
+    agent ≡ agent_of hart → hart.cache ≡ cache_of state h → TellsSection hart →
     Shows (record bus { agents = with_agent bus.agents h agent }) (with_hart state h hart)
 shows_told bus state h agent hart shows is cache told = record {
   mode = shows.mode;
@@ -73,9 +80,11 @@ shows_told bus state h agent hart shows is cache told = record {
           ∙ ap (hart_of (with_hart state h hart)) (sym own))
       | inr past ↦
           agent_past (with_agent bus.agents h agent) g (omega (arith, past, own, count_with_agent bus.agents h agent))
-          ∙ ap agent_of (sym (hart_of-past (with_hart state h hart) g (omega (arith, past, own, shows.agent_each, same_harts))))
+          ∙ ap agent_of
+          (sym (hart_of-past (with_hart state h hart) g (omega (arith, past, own, shows.agent_each, same_harts))))
     ]
-    | inr other ↦ agent_other bus.agents h g agent other ∙ shows.agents g ∙ ap agent_of (sym (hart_of-with_hart_other state h g hart other))
+    | inr other ↦ agent_other bus.agents h g agent other ∙ shows.agents g
+        ∙ ap agent_of (sym (hart_of-with_hart_other state h g hart other))
   ];
   caches = λ g. shows.caches g ∙ sym (kept_cache g);
   live = λ g. (all_told g).live;
@@ -94,20 +103,24 @@ shows_told bus state h agent hart shows is cache told = record {
     all_told g = elim (cases_eq g h) [
       | inl own ↦ elim (cases_lt h (length state.harts)) [
         | inl below ↦ rw own (subst TellsSection (sym (hart_of-with_hart_same state h hart below)) told)
-        | inr past ↦ subst TellsSection (sym (hart_of-past (with_hart state h hart) g (omega (arith, past, own, same_harts)))) tells_nothing
+        | inr past ↦ subst TellsSection
+            (sym (hart_of-past (with_hart state h hart) g (omega (arith, past, own, same_harts)))) tells_nothing
       ]
       | inr other ↦ subst TellsSection (sym (hart_of-with_hart_other state h g hart other)) (tells shows g)
     ]
 
 -- one hart has changed at the bus alone
-pub shows_agent : (bus : BusState) (state : ModelState) (h : ℕ) (agent : Agent) (hart : Hart) → Shows bus state → agent ≡ agent_of hart →
-    hart.section ≡ section_of state h → hart.armed ≡ armed_of state h → hart.cache ≡ cache_of state h →
+pub shows_agent : (bus : BusState) (state : ModelState) (h : ℕ) (agent : Agent) (hart : Hart) → Shows bus state →
+    agent ≡ agent_of hart → hart.section ≡ section_of state h → hart.armed ≡ armed_of state h →
+    hart.cache ≡ cache_of state h →
     Shows (record bus { agents = with_agent bus.agents h agent }) (with_hart state h hart)
 shows_agent bus state h agent hart shows is section armed cache =
-    shows_told bus state h agent hart shows is cache (tells_yet (hart_of state h) hart section armed cache (tells shows h))
+    shows_told bus state h agent hart shows is cache
+    (tells_yet (hart_of state h) hart section armed cache (tells shows h))
 
 -- the agent of a hart whose attempt has closed
-closed_at : (hart : Hart) (attempt : Option Stamp) → clock_after hart.clock hart.seen attempt ≡ closed_clock hart attempt
+closed_at : (hart : Hart) (attempt : Option Stamp) →
+    clock_after hart.clock hart.seen attempt ≡ closed_clock hart attempt
 closed_at hart None = refl
 closed_at hart (Some stamp) = refl
 
@@ -121,12 +134,13 @@ pub record ShowsEach (bus new : BusState) (state : ModelState) (becomes : ℕ �
   pub cache_each : length new.copies.caches ≡ length bus.copies.caches
   pub ways : (h : ℕ) → (slotted_at new.copies.caches h).ways ≡ (slotted_at bus.copies.caches h).ways
   pub agents : (h : ℕ) → h < length bus.agents → agent_at new.agents h ≡ agent_of (becomes h (hart_of state h))
-  pub caches : (h : ℕ) → h < length bus.agents → (slotted_at new.copies.caches h).residency ≡ (becomes h (hart_of state h)).cache
+  pub caches : (h : ℕ) → h < length bus.agents →
+      (slotted_at new.copies.caches h).residency ≡ (becomes h (hart_of state h)).cache
   pub told : (h : ℕ) → h < length bus.agents → TellsSection (becomes h (hart_of state h))
   pub memory : LiesWhere new.copies state.committed
 
-pub shows_each : (bus new : BusState) (state : ModelState) (becomes : ℕ → Hart → Hart) → Shows bus state → ShowsEach bus new state becomes →
-    Shows new (record (each_hart state becomes) { order = new.order })
+pub shows_each : (bus new : BusState) (state : ModelState) (becomes : ℕ → Hart → Hart) → Shows bus state →
+    ShowsEach bus new state becomes → Shows new (record (each_hart state becomes) { order = new.order })
 shows_each bus new state becomes shows each = record {
   mode = each.mode ∙ shows.mode;
   ways = λ h below. each.ways h ∙ shows.ways h (omega (arith, below, same_harts));
@@ -138,7 +152,8 @@ shows_each bus new state becomes shows each = record {
   ];
   caches = λ h. elim (cases_lt h (length bus.agents)) [
     | inl below ↦ each.caches h below ∙ ap (λ hart. hart.cache) (sym (became h below))
-    | inr past ↦ ap (λ cache. cache.residency) (beyond new.copies.caches h (omega (arith, past, each.cache_each, shows.agent_each, shows.cache_each)))
+    | inr past ↦ ap (λ cache. cache.residency)
+        (beyond new.copies.caches h (omega (arith, past, each.cache_each, shows.agent_each, shows.cache_each)))
         ∙ ap (λ hart. hart.cache) (sym (gone h past))
   ];
   live = λ h. (all_told h).live;

@@ -1,5 +1,6 @@
 -- a bus that nothing was asked of is ready, and stays so as a hart raises a request that can be served
-use Rattle.std.proofs.Common.{◌≡◌, ◌≢◌, ◌∙◌, ℕ, zero, suc, ◌<◌, ◌≤◌, Bool, true, false, List, [], ◌∷◌, ◌++◌, length, Option, Some, None}
+use Rattle.std.proofs.Common.{◌≡◌, ◌≢◌, ◌∙◌, ℕ, zero, suc, ◌<◌, ◌≤◌, Bool, true, false, List, [], ◌∷◌, ◌++◌, length}
+use Rattle.std.proofs.Common.{Option, Some, None}
 use Rattle.std.proofs.Common.{is_some, refl, ap, sym, subst, arith, inl, inr}
 use Rattle.std.specs.Bool.{MatchBool}
 use Rattle.std.specs.Option.{option_map}
@@ -19,7 +20,8 @@ use Rattle.snoop.specs.Shows.{CanBeServed, Holding, IsReady, IsUnmarked, BusStat
 
 pub ready_at_rest : (mode : Mode) (copies : Holding) (agents : List Agent) → length agents ≤ 8 →
     length copies.caches ≡ length agents →
-    ((h : ℕ) → h < length copies.caches → IsWellFormed (slotted_at copies.caches h).ways (slotted_at copies.caches h).residency) →
+    ((h : ℕ) → h < length copies.caches →
+    IsWellFormed (slotted_at copies.caches h).ways (slotted_at copies.caches h).residency) →
     ((h : ℕ) → (agent_at agents h).raised ≡ None) → ((h : ℕ) → (agent_at agents h).armed ≤ 15) →
     (mode ≡ Plain → (h : ℕ) → IsUnmarked copies h) →
     IsReady (record { mode = mode; copies = copies; agents = agents; order = [] })
@@ -36,16 +38,16 @@ ready_at_rest mode copies agents few each formed none few_armed unmarked = recor
 }
 
 -- one agent more that has raised no request
-pub none_raised_more : (agents : List Agent) (agent : Agent) → ((h : ℕ) → (agent_at agents h).raised ≡ None) → agent.raised ≡ None →
-    (h : ℕ) → (agent_at (agents ++ agent ∷ []) h).raised ≡ None
+pub none_raised_more : (agents : List Agent) (agent : Agent) → ((h : ℕ) → (agent_at agents h).raised ≡ None) →
+    agent.raised ≡ None → (h : ℕ) → (agent_at (agents ++ agent ∷ []) h).raised ≡ None
 none_raised_more [] agent none here zero = here
 none_raised_more [] agent none here (suc h) = refl
 none_raised_more (first ∷ agents) agent none here zero = none 0
 none_raised_more (first ∷ agents) agent none here (suc h) = none_raised_more agents agent (λ k. none (suc k)) here h
 
 -- and one more that is noted as armed for few instructions
-pub few_armed_more : (agents : List Agent) (agent : Agent) → ((h : ℕ) → (agent_at agents h).armed ≤ 15) → agent.armed ≤ 15 →
-    (h : ℕ) → (agent_at (agents ++ agent ∷ []) h).armed ≤ 15
+pub few_armed_more : (agents : List Agent) (agent : Agent) → ((h : ℕ) → (agent_at agents h).armed ≤ 15) →
+    agent.armed ≤ 15 → (h : ℕ) → (agent_at (agents ++ agent ∷ []) h).armed ≤ 15
 few_armed_more [] agent few here zero = here
 few_armed_more [] agent few here (suc h) = omega arith
 few_armed_more (first ∷ agents) agent few here zero = few 0
@@ -53,7 +55,8 @@ few_armed_more (first ∷ agents) agent few here (suc h) = few_armed_more agents
 
 -- a hart has raised a request
 abbrev pub with_raised : List Agent → Request → List Agent
-with_raised agents request = with_agent agents request.hart (record (agent_at agents request.hart) { raised = Some request })
+with_raised agents request =
+    with_agent agents request.hart (record (agent_at agents request.hart) { raised = Some request })
 
 pub ready_raised : (bus : BusState) (request : Request) → IsReady bus → request_of bus.order request.hart ≡ None →
     CanBeServed bus request.hart request → IsReady (record bus { agents = with_raised bus.agents request })
@@ -64,7 +67,8 @@ ready_raised bus request ready none can = record {
   raised = λ h other is. elim (cases_eq h request.hart) [
     | inl own ↦
         rw own
-        (subst (CanBeServed (record bus { agents = with_raised bus.agents request }) request.hart) (same other (own_request h other own is))
+        (subst (CanBeServed (record bus { agents = with_raised bus.agents request }) request.hart)
+        (same other (own_request h other own is))
         (still request.hart request can))
     | inr apart ↦ still h other (ready.raised h other (other_request h other apart is))
   ];
@@ -74,7 +78,9 @@ ready_raised bus request ready none can = record {
     | inl own ↦ ap (request_of bus.order) own ∙ none
     | inr apart ↦ ready.one_request h other (other_request h other apart is)
   ];
-  few_armed = few_armed_yet bus.agents request.hart (record (agent_at bus.agents request.hart) { raised = Some request }) ready.few_armed
+  few_armed =
+      few_armed_yet bus.agents request.hart (record (agent_at bus.agents request.hart) { raised = Some request })
+      ready.few_armed
       (ready.few_armed request.hart);
   unmarked = ready.unmarked;
 }
@@ -82,21 +88,27 @@ ready_raised bus request ready none can = record {
     count : length (with_raised bus.agents request) ≡ length bus.agents
     count = count_with_agent bus.agents request.hart _
 
-    own_request : (h : ℕ) (other : Request) → h ≡ request.hart → (agent_at (with_raised bus.agents request) h).raised ≡ Some other →
-        Some request ≡ Some other
+    own_request : (h : ℕ) (other : Request) → h ≡ request.hart →
+        (agent_at (with_raised bus.agents request) h).raised ≡ Some other → Some request ≡ Some other
     own_request h other own is =
-        sym (ap (λ a. a.raised) (agent_same bus.agents request.hart (record (agent_at bus.agents request.hart) { raised = Some request }) can.hart_exists))
+        sym
+        (ap (λ a. a.raised)
+        (agent_same bus.agents request.hart
+        (record (agent_at bus.agents request.hart) { raised = Some request }) can.hart_exists))
         ∙ ap (λ k. (agent_at (with_raised bus.agents request) k).raised) (sym own) ∙ is
 
-    other_request : (h : ℕ) (other : Request) → h ≢ request.hart → (agent_at (with_raised bus.agents request) h).raised ≡ Some other →
-        (agent_at bus.agents h).raised ≡ Some other
+    other_request : (h : ℕ) (other : Request) → h ≢ request.hart →
+        (agent_at (with_raised bus.agents request) h).raised ≡ Some other → (agent_at bus.agents h).raised ≡ Some other
     other_request h other apart is = sym (ap (λ a. a.raised) (agent_other bus.agents request.hart h _ apart)) ∙ is
 
     same : (other : Request) → Some request ≡ Some other → request ≡ other
     same other is = cc
 
-    still : (h : ℕ) (other : Request) → CanBeServed bus h other → CanBeServed (record bus { agents = with_raised bus.agents request }) h other
-    still h other can = served_yet bus (record bus { agents = with_raised bus.agents request }) h other count (λ inside. inside) (λ room. room) can
+    still : (h : ℕ) (other : Request) → CanBeServed bus h other →
+        CanBeServed (record bus { agents = with_raised bus.agents request }) h other
+    still h other can =
+        served_yet bus (record bus { agents = with_raised bus.agents request }) h other count (λ inside. inside)
+        (λ room. room) can
 
 -- what a test that holds says, and where no request is found
 pub is_told : (test : Bool) (A B : Type 0) → test ≡ true → MatchBool test A B → A

@@ -1,5 +1,6 @@
 -- a head that meets no section changes nothing
-use Rattle.std.proofs.Common.{◌≡◌, ◌∙◌, ℕ, zero, suc, true, List, [], ◌∷◌, None, length, map, refl, ap, sym, subst, if◌then◌else◌}
+use Rattle.std.proofs.Common.{◌≡◌, ◌∙◌, ℕ, zero, suc, true, List, [], ◌∷◌, None, length, map, refl, ap, sym, subst}
+use Rattle.std.proofs.Common.{if◌then◌else◌}
 use Rattle.std.proofs.lemmas.List.{length-map}
 use Rattle.bus_order.specs.Order.{Request}
 use Rattle.el_base.specs.Losers.{losers_of}
@@ -50,7 +51,8 @@ module _ (head : Request) (bus : BusState) (state : ModelState) (shows : Shows b
       (is : (h : ℕ) → fate_in known h ≡ fate_at state head h) where
     pub unmet_shows : Shows bus (faced state head)
     unmet_shows =
-        subst (λ agents. Shows (record bus { agents = agents }) (faced state head)) (nothing_sent bus.mode known head.hart bus.agents all)
+        subst (λ agents. Shows (record bus { agents = agents }) (faced state head))
+        (nothing_sent bus.mode known head.hart bus.agents all)
         (faced_shows head known bus bus state count (nobody_settled head known bus all) shows is)
 
     pub unmet_losers : losers_of (λ h. None) ≡ face_losers state head
@@ -77,7 +79,9 @@ module _ (head : Request) (bus : BusState) (state : ModelState) (shows : Shows b
         (plain_unmet bus state head h ready shows plain))
 
     pub plain_shows : Shows bus (faced state head)
-    plain_shows = unmet_shows no_fates (length-map bus.agents (λ agent. declared.Unmet)) (all_unmet bus.agents) plain_fate
+    plain_shows =
+        unmet_shows no_fates (length-map bus.agents (λ agent. declared.Unmet)) (all_unmet bus.agents) plain_fate
 
     pub plain_losers : losers_of (λ h. None) ≡ face_losers state head
-    plain_losers = unmet_losers no_fates (length-map bus.agents (λ agent. declared.Unmet)) (all_unmet bus.agents) plain_fate
+    plain_losers =
+        unmet_losers no_fates (length-map bus.agents (λ agent. declared.Unmet)) (all_unmet bus.agents) plain_fate

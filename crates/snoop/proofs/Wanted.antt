@@ -12,11 +12,15 @@ use Rattle.snoop.specs.Shows.{BusState, Shows}
 
 -- whether one of these requests is another hart's for the line, and counts
 any_asked : (need : Need) (requests : List requests.Request) (h line : ℕ) →
-    list_any (λ request. (request.line.number == line) && not (request.hart.number == h) && (writes need || writes request.need)) requests
+    list_any (λ request. (request.line.number == line) && not (request.hart.number == h)
+    && (writes need || writes request.need)) requests
     ≡ is_asked (λ request. writes need || writes request.need) (map numbered requests) h line
 any_asked need [] h line = refl
 any_asked need (request ∷ requests) h line =
-    ap (λ later. ((request.line.number == line) && not (request.hart.number == h) && (writes need || writes request.need)) || later)
+    ap
+    (λ later.
+    ((request.line.number == line) && not (request.hart.number == h) && (writes need || writes request.need))
+    || later)
     (any_asked need requests h line)
 
 by_need : (state : ModelState) (h line : ℕ) (need : Need) →
@@ -27,7 +31,8 @@ by_need state h line Write = refl
 -- the test that the bus makes is the definition's
 pub wanted_shown : (bus : BusState) (state : ModelState) (requests : List requests.Request) (h line : ℕ) (need : Need) →
     map numbered requests ≡ bus.order → Shows bus state →
-    list_any (λ request. (request.line.number == line) && not (request.hart.number == h) && (writes need || writes request.need)) requests
+    list_any (λ request. (request.line.number == line) && not (request.hart.number == h)
+    && (writes need || writes request.need)) requests
     ≡ is_wanted state h line need
 wanted_shown bus state requests h line need same shows =
     any_asked need requests h line

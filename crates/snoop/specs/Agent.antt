@@ -9,8 +9,8 @@ use Rattle.el_model.specs.State.{Hart}
 use Rattle.mail.specs.Mailbox.{Message, posted, without_markers, without_oldest, without_probe}
 use Rattle.stamp.specs.Stamps.{Stamp, next_clock_of}
 
--- what a hart has at the bus beside its cache; each field is the one of this name of the definition's hart, but that of an armed section
--- the count alone is noted, and 0 where there is none
+-- what a hart has at the bus beside its cache; each field is the one of this name of the definition's hart, but that of
+-- an armed section the count alone is noted, and 0 where there is none
 pub record Agent : Type 0 where
   pub raised : Option Request
   pub held_line : Option ℕ

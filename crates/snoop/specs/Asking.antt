@@ -18,7 +18,8 @@ numbered_asked declared.Nothing = Nothing
 numbered_asked (declared.Raised request) = Raised (order.numbered request)
 numbered_asked (declared.Placed request) = Placed (order.numbered request)
 
--- what a hart asks that has raised this and has this in the order: what it has raised, else what is in the order, else nothing
+-- what a hart asks that has raised this and has this in the order: what it has raised, else
+-- what is in the order, else nothing
 abbrev pub asking : Option Request → Option Request → Asking
 asking (Some raised) ordered = Raised raised
 asking None (Some ordered) = Placed ordered

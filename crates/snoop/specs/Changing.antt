@@ -45,13 +45,16 @@ pub record IsHartChanged (becomes : Agent → Agent) (clears : Bool) (h : ℕ) (
   pub copies : ClearsIf clears h old.copies new.copies
 
 -- the harts below a number have changed, and the others are as they were
-pub record AreHartsChanged (becomes : ℕ → Agent → Agent) (clears : ℕ → Bool) (number : ℕ) (old new : BusState) : Type 0 where
+pub record AreHartsChanged (becomes : ℕ → Agent → Agent) (clears : ℕ → Bool) (number : ℕ)
+    (old new : BusState) : Type 0 where
   pub mode : new.mode ≡ old.mode
   pub order : new.order ≡ old.order
   pub count : length new.agents ≡ length old.agents
   pub lines : new.copies.lines ≡ old.copies.lines
   pub stays : StaysLent old.copies new.copies
   pub agents : (h : ℕ) → h < number → agent_at new.agents h ≡ becomes h (agent_at old.agents h)
-  pub caches : (h : ℕ) → h < number → ClearedIf (clears h) (slotted_at old.copies.caches h) (slotted_at new.copies.caches h)
+  pub caches : (h : ℕ) → h < number →
+      ClearedIf (clears h) (slotted_at old.copies.caches h) (slotted_at new.copies.caches h)
   pub other_agents : (h : ℕ) → number ≤ h → agent_at new.agents h ≡ agent_at old.agents h
-  pub other_caches : (h : ℕ) → number ≤ h → ClearedIf false (slotted_at old.copies.caches h) (slotted_at new.copies.caches h)
+  pub other_caches : (h : ℕ) → number ≤ h →
+      ClearedIf false (slotted_at old.copies.caches h) (slotted_at new.copies.caches h)

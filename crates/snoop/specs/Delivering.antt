@@ -1,5 +1,6 @@
 -- what the bus makes of its parts as a message is delivered
-use Rattle.std.specs.Prelude.{ℕ, zero, suc, ◌≡◌, ◌<◌, ◌==◌, ◌&&◌, Bool, true, false, not, List, [], ◌∷◌, map, filter, length, Option, None}
+use Rattle.std.specs.Prelude.{ℕ, zero, suc, ◌≡◌, ◌<◌, ◌==◌, ◌&&◌, Bool, true, false, not, List, [], ◌∷◌, map, filter}
+use Rattle.std.specs.Prelude.{length, Option, None}
 use Rattle.std.specs.Prelude.{Some, is_some, if◌then◌else◌}
 use Rattle.bus_order.specs.Order.{Request, request_of}
 use Rattle.defer_list.specs.HartSet.{has}
@@ -17,14 +18,17 @@ abbrev pub numbers_from : ℕ → ℕ → List ℕ
 numbers_from from zero = []
 numbers_from from (suc count) = from ∷ numbers_from (suc from) count
 
--- whether a hart that was told of these is to pass an origin on to another: it is not that one itself, and it is ordered on a line
+-- whether a hart that was told of these is to pass an origin on to another: it is not that one
+-- itself, and it is ordered on a line
 abbrev pub passes : List ℕ → List Request → ℕ → ℕ → ℕ → Bool
-passes told order to line origin = not (origin == to) && has told origin && is_some (for_line line (request_of order origin))
+passes told order to line origin =
+    not (origin == to) && has told origin && is_some (for_line line (request_of order origin))
 
 -- the agents after a hart was posted these messages, one after another
 abbrev pub posts_sent : List Message → ℕ → List Agent → List Agent
 posts_sent [] to agents = agents
-posts_sent (message ∷ messages) to agents = posts_sent messages to (with_agent agents to (agent_posted message (agent_at agents to)))
+posts_sent (message ∷ messages) to agents =
+    posts_sent messages to (with_agent agents to (agent_posted message (agent_at agents to)))
 
 -- the agents after a hart was sent a probe of an origin, if a test takes it
 abbrev pub probe_sent : Bool → ℕ → ℕ → List Agent → List Agent
@@ -42,7 +46,8 @@ passed_on bus h to None = []
 passed_on bus h to (Some own) =
     map Probe (filter (passes (agent_at bus.agents h).told bus.order to own.line) (numbers_from 0 (length bus.agents)))
 
--- the agents after a hart took a marker: its sender is before the hart from now on, and is sent a probe of the hart and what it was told
+-- the agents after a hart took a marker: its sender is before the hart from now on, and is sent a probe
+-- of the hart and what it was told
 abbrev pub marker_taken : BusState → ℕ → ℕ → List Agent
 marker_taken bus h sender =
     posts_sent (Probe h ∷ passed_on bus h sender (request_of bus.order h)) sender
@@ -81,5 +86,6 @@ agent_heard origin stamp agent = agent_seeing stamp (agent_told origin agent)
 pub record IsLostTo (h origin : ℕ) (request : Option Request) (old new : BusState) : Type 0 where
   pub mode : new.mode ≡ old.mode
   pub order : new.order ≡ old.order
-  pub agents : new.agents ≡ with_agent old.agents h (agent_heard origin (in_removal old.mode (stamp_in request)) (agent_at old.agents h))
+  pub agents : new.agents ≡ with_agent old.agents h
+      (agent_heard origin (in_removal old.mode (stamp_in request)) (agent_at old.agents h))
   pub copies : IsClearedAt h old.copies new.copies

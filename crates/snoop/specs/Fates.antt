@@ -1,5 +1,6 @@
 -- the fates of sections as the code has them
-use Rattle.std.specs.Prelude.{ℕ, suc, Bool, true, false, ◌&&◌, List, [], ◌∷◌, Option, None, Some, option_map, slice_index_or, if◌then◌else◌}
+use Rattle.std.specs.Prelude.{ℕ, suc, Bool, true, false, ◌&&◌, List, [], ◌∷◌, Option, None, Some, option_map}
+use Rattle.std.specs.Prelude.{slice_index_or, if◌then◌else◌}
 use Rattle.std.specs.List.{list_all}
 use Rattle.bus_order.specs.Order.{Request, request_of}
 use Rattle.defer_list.specs.HartSet.{has}
@@ -39,7 +40,8 @@ number_of hart = option_map (λ h. h.number) hart
 abbrev pub stamp_on : List Request → ℕ → ℕ → Option Stamp
 stamp_on order line h = stamp_in (for_line line (request_of order h))
 
--- whether a section loses to an origin, of which its hart was told, as that has a request on a line with a stamp less than the section's
+-- whether a section loses to an origin, of which its hart was told, as that has a request on a line with
+-- a stamp less than the section's
 abbrev pub is_earlier_told : Agent → List Request → ℕ → ℕ → Bool
 is_earlier_told agent order line origin = has agent.told origin && is_before (stamp_on order line origin) agent.attempt
 

@@ -16,24 +16,29 @@ pub record LeavesCopies (becomes : ModelState → ModelState) (old new : BusStat
 -- a hart is noted as armed with a count, or as not armed with 0, and no copy is touched
 pub record LeavesNoted (h count : ℕ) (old new : BusState) : Type 0 where
   pub ready : IsReady new
-  pub shows : (state : ModelState) (now : Hart) → Shows old state → IsNotedAs state h count now → Shows new (with_hart state h now)
+  pub shows : (state : ModelState) (now : Hart) → Shows old state → IsNotedAs state h count now →
+      Shows new (with_hart state h now)
   pub copies_stay : new.copies ≡ old.copies
 
 -- a call that moves no line, from each state in which it starts so: caches may have fewer bits after it
-pub record LeavesLines (Starts : ModelState → Type 0) (becomes : ModelState → ModelState) (old new : BusState) : Type 0 where
+pub record LeavesLines (Starts : ModelState → Type 0) (becomes : ModelState → ModelState)
+    (old new : BusState) : Type 0 where
   pub ready : IsReady new
   pub shows : (state : ModelState) → Starts state → Shows new (becomes state)
   pub memory_stays : new.copies.lines ≡ old.copies.lines
   pub told : StaysTold old new
 
--- a call that may move a line, and with it what a pool has for the caches: they tell what they told, and sections hold what they held
-pub record LeavesTold (Starts : ModelState → Type 0) (becomes : ModelState → ModelState) (before after : Pooled) (old new : BusState) : Type 0 where
+-- a call that may move a line, and with it what a pool has for the caches: they tell what they told,
+-- and sections hold what they held
+pub record LeavesTold (Starts : ModelState → Type 0) (becomes : ModelState → ModelState) (before after : Pooled)
+    (old new : BusState) : Type 0 where
   pub ready : IsReady new
   pub shows : (state : ModelState) → Starts state → Shows new (becomes state)
   pub told : (bytes : ℕ → List ℕ) → Tells before old bytes → Tells after new bytes
   pub holds : LeavesHolds before after
 
--- a state that the bus shows, of which this makes one with the memory of before: so it is owed where armed sections may be let go
+-- a state that the bus shows, of which this makes one with the memory of before: so it is owed
+-- where armed sections may be let go
 pub record ShowsKept (becomes : ModelState → ModelState) (bus : BusState) (state : ModelState) : Type 0 where
   pub shows : Shows bus state
   pub keeps : KeepsBytes state.committed (becomes state).committed

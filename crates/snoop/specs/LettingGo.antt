@@ -12,8 +12,8 @@ use Rattle.snoop.specs.Agent.{Agent, agent_at, agent_noted, agent_of}
 use Rattle.snoop.specs.Changing.{AreHartsChanged, IsHartChanged}
 use Rattle.snoop.specs.Shows.{BusState, lives}
 
--- memory lies where it did and has the bytes that it had. An armed section stores nothing, so this holds where harts are let go; the bus
--- cannot know that, and its caller owes it
+-- memory lies where it did and has the bytes that it had. An armed section stores nothing, so this holds where harts
+-- are let go; the bus cannot know that, and its caller owes it
 pub record KeepsBytes (old new : FlatState) : Type 0 where
   pub base : new.base ≡ old.base
   pub bytes : new.bytes ≡ old.bytes
@@ -22,8 +22,9 @@ pub record KeepsBytes (old new : FlatState) : Type 0 where
 abbrev pub with_committed : FlatState → ModelState → ModelState
 with_committed committed state = record state { committed = committed }
 
--- what a hart becomes that is noted as armed with a count, 0 where it is not armed: its part at the bus is as it was but for the count, its
--- cache is as it was, and it has a live section exactly where some line of its cache has a bit and it is not armed
+-- what a hart becomes that is noted as armed with a count, 0 where it is not armed: its part at the bus is as
+-- it was but for the count, its cache is as it was, and it has a live section exactly where some line of its
+-- cache has a bit and it is not armed
 pub record IsNotedAs (state : ModelState) (h count : ℕ) (now : Hart) : Type 0 where
   pub agent : agent_of now ≡ agent_noted count (agent_of (hart_of state h))
   pub cache : now.cache ≡ cache_of state h
@@ -49,7 +50,8 @@ abbrev pub agent_let_go : Bool → Agent → Agent
 agent_let_go true agent = agent_noted 0 agent
 agent_let_go false agent = agent
 
--- one hart is let go where a test says so, and these harts below a number are: they have no bits any more, and are noted as not armed
+-- one hart is let go where a test says so, and these harts below a number are: they have no bits any
+-- more, and are noted as not armed
 abbrev pub IsLetGo : Bool → ℕ → BusState → BusState → Type 0
 IsLetGo test h old new = IsHartChanged (agent_let_go test) test h old new
 

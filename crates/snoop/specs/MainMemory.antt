@@ -7,7 +7,8 @@ use Rattle.el_base.specs.declared.outcomes.Outcome.TheVariants.{Served}
 use Rattle.line_pool.specs.Pooled.{Pooled}
 use Rattle.snoop.specs.Shows.{BusState, lent_copies}
 
--- after a hart's request was served: a line that left the hart's cache for it is written back where its copy was modified or owned
+-- after a hart's request was served: a line that left the hart's cache for it is written back where
+-- its copy was modified or owned
 abbrev pub lines_for : Copies → ℕ → Option Request → List (List ℕ)
 lines_for copies h None = copies.lines
 lines_for copies h (Some request) = lines_after h request.line copies

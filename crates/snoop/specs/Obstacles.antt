@@ -31,7 +31,8 @@ held_by state request = serving.blocks_if Locked (holder_of state request.hart r
 abbrev pub obstacle_by : ModelState → Request → Option Request → serving.Obstacle
 obstacle_by state request head =
     serving.blocks_if Behind (serving.other_head request.hart head)
-    (serving.blocks_if Retained (first_such (λ h. conflicts_with head h (hart_of state h)) (numbers_of state)) (held_by state request))
+    (serving.blocks_if Retained (first_such (λ h. conflicts_with head h (hart_of state h)) (numbers_of state))
+    (held_by state request))
 
 -- what a serve comes to that something is in the way of, and none where nothing is
 abbrev pub blocked_by : serving.Obstacle → Option Outcome

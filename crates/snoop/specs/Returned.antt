@@ -20,18 +20,19 @@ returned bus h cache = record bus { copies = record bus.copies { caches = slice_
 abbrev pub HasRoomFor : Slotted → Request → Type 0
 HasRoomFor cache request = room_of cache.ways cache.residency request.line ≡ true
 
--- what is owed for the bus to be ready again: the cache is well formed, it has room for the hart's request, if it has one,
--- and in the plain mode no line of it has a bit
+-- what is owed for the bus to be ready again: the cache is well formed, it has room for the hart's request, if it has
+-- one, and in the plain mode no line of it has a bit
 pub record IsReturned (bus : BusState) (h : ℕ) (cache : Slotted) : Type 0 where
   pub well_formed : IsWellFormed cache.ways cache.residency
   pub raised : (request : Request) → (agent_at bus.agents h).raised ≡ Some request → HasRoomFor cache request
   pub ordered : (request : Request) → request_of bus.order h ≡ Some request → HasRoomFor cache request
   pub unmarked : bus.mode ≡ Plain → has_marks cache.residency ≡ false
 
--- what is owed for it to show that the hart has become another, and that this is what is committed: the hart's part at the bus is as it
--- was, its cache is the one that was given back, it is armed exactly where it was, it has a live section exactly where some line has a bit
--- and it is not armed, and memory lies where it did
-pub record IsReturnedAs (bus : BusState) (state : ModelState) (h : ℕ) (cache : Slotted) (hart : Hart) (committed : FlatState) : Type 0 where
+-- what is owed for it to show that the hart has become another, and that this is what is committed: the hart's part at
+-- the bus is as it was, its cache is the one that was given back, it is armed exactly where it was, it has a live
+-- section exactly where some line has a bit and it is not armed, and memory lies where it did
+pub record IsReturnedAs (bus : BusState) (state : ModelState) (h : ℕ) (cache : Slotted) (hart : Hart)
+    (committed : FlatState) : Type 0 where
   pub agent : agent_of hart ≡ agent_of (hart_of state h)
   pub ways : cache.ways ≡ (slotted_at bus.copies.caches h).ways
   pub residency : hart.cache ≡ cache.residency

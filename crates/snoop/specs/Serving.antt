@@ -33,11 +33,13 @@ pub record CopiesServe (live : Bool) (request : Request) (old new : Copies) : Ty
   pub served : IsServed request.need request.hart request.line old filled
   pub claimed : CopiesClaim live request filled new
 
--- what serving a request makes of the bus and of the pool that lends its caches, before the next head of its line is faced
+-- what serving a request makes of the bus and of the pool that lends its caches, before the
+-- next head of its line is faced
 pub record Serves (request : Request) (before after : Pooled) (old new : BusState) : Type 0 where
   pub mode : new.mode ≡ old.mode
   pub agents : AgentsServe (lives_at old request.hart) request old.agents new.agents
-  pub copies : CopiesServe (lives_at old request.hart) request (lent_copies before old.copies) (lent_copies after new.copies)
+  pub copies : CopiesServe (lives_at old request.hart) request (lent_copies before old.copies)
+      (lent_copies after new.copies)
   pub lent : IsLentTo after new.copies.caches
   pub holds : LeavesHolds before after
   pub order : new.order ≡ removed old.order request.hart

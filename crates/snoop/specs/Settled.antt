@@ -39,7 +39,8 @@ abbrev pub IsSettledAt : Request → Fate → ℕ → BusState → BusState → 
 IsSettledAt head fate h old new = IsHartChanged (settled_agent old head fate) (loses fate) h old new
 
 abbrev pub AreSettledBelow : Request → (ℕ → Fate) → ℕ → BusState → BusState → Type 0
-AreSettledBelow head fate number old new = AreHartsChanged (λ h. settled_agent old head (fate h)) (λ h. loses (fate h)) number old new
+AreSettledBelow head fate number old new =
+    AreHartsChanged (λ h. settled_agent old head (fate h)) (λ h. loses (fate h)) number old new
 
 -- the agents after a hart with this fate has sent a marker, where it stays
 abbrev pub marker_sent : Fate → ℕ → ℕ → List Agent → List Agent

@@ -31,7 +31,8 @@ holding_of hierarchy = record { first = hierarchy.first; lines = hierarchy.lines
 
 -- the same, with the bytes that a pool has for the caches
 abbrev pub lent_copies : Pooled → Holding → Copies
-lent_copies pool holding = record { first = holding.first; lines = holding.lines; caches = lent_all pool holding.caches }
+lent_copies pool holding =
+    record { first = holding.first; lines = holding.lines; caches = lent_all pool holding.caches }
 
 -- a line lies in main memory
 abbrev pub LiesIn : Holding → ℕ → Type 0
@@ -53,22 +54,24 @@ pub record BusState : Type 0 where
   pub order : List Request
 
 abbrev pub bus_state : buses.Bus → BusState
-bus_state bus = record { mode = bus.mode; copies = holding_of bus.hierarchy; agents = bus.agents.items; order = bus.order }
+bus_state bus =
+    record { mode = bus.mode; copies = holding_of bus.hierarchy; agents = bus.agents.items; order = bus.order }
 
 -- main memory lies where the state's memory does, and is as long
 pub record LiesWhere (copies : Holding) (flat : FlatState) : Type 0 where
   pub first : copies.first * LINE_BYTES ≡ flat.base
   pub lines : length copies.lines * LINE_BYTES ≡ length flat.bytes
 
--- whether a hart with this cache and this noted count has a live section: some line has a bit, and that is no armed section's
+-- whether a hart with this cache and this noted count has a live section: some line has a bit,
+-- and that is no armed section's
 abbrev pub lives : List (List Way) → ℕ → Bool
 lives cache count = has_marks cache && (count == 0)
 
 abbrev pub lives_at : BusState → ℕ → Bool
 lives_at bus h = lives (slotted_at bus.copies.caches h).residency (agent_at bus.agents h).armed
 
--- each part is the definition's, and main memory lies in its place; a hart has a live section exactly where some line of its cache has a
--- bit and it is not armed, and an armed one has run an instruction
+-- each part is the definition's, and main memory lies in its place; a hart has a live section exactly where some line
+-- of its cache has a bit and it is not armed, and an armed one has run an instruction
 pub record Shows (bus : BusState) (state : ModelState) : Type 0 where
   pub mode : bus.mode ≡ state.config.mode
   pub ways : (h : ℕ) → h < length state.harts → (slotted_at bus.copies.caches h).ways ≡ state.config.ways
@@ -81,8 +84,8 @@ pub record Shows (bus : BusState) (state : ModelState) : Type 0 where
   pub order : bus.order ≡ state.order
   pub memory : LiesWhere bus.copies state.committed
 
--- a request can be served once it is the head of its line and nothing is in its way: its hart is there, its line lies in
--- memory, and the hart's cache has room for it
+-- a request can be served once it is the head of its line and nothing is in its way: its hart is there, its line lies
+-- in memory, and the hart's cache has room for it
 pub record CanBeServed (bus : BusState) (h : ℕ) (request : Request) : Type 0 where
   pub own : request.hart ≡ h
   pub hart_exists : h < length bus.agents
@@ -94,11 +97,13 @@ pub record CanBeServed (bus : BusState) (h : ℕ) (request : Request) : Type 0 w
 pub record IsReady (bus : BusState) : Type 0 where
   pub few : length bus.agents ≤ 8
   pub each : length bus.copies.caches ≡ length bus.agents
-  pub well_formed : (h : ℕ) → h < length bus.copies.caches → IsWellFormed (slotted_at bus.copies.caches h).ways (slotted_at bus.copies.caches h).residency
+  pub well_formed : (h : ℕ) → h < length bus.copies.caches →
+      IsWellFormed (slotted_at bus.copies.caches h).ways (slotted_at bus.copies.caches h).residency
   pub raised : (h : ℕ) (request : Request) → (agent_at bus.agents h).raised ≡ Some request → CanBeServed bus h request
   pub ordered : (h : ℕ) (request : Request) → request_of bus.order h ≡ Some request → CanBeServed bus h request
   pub once : IsOneEach bus.order
-  pub one_request : (h : ℕ) (request : Request) → (agent_at bus.agents h).raised ≡ Some request → request_of bus.order h ≡ None
+  pub one_request : (h : ℕ) (request : Request) → (agent_at bus.agents h).raised ≡ Some request →
+      request_of bus.order h ≡ None
   pub few_armed : (h : ℕ) → (agent_at bus.agents h).armed ≤ 15
   pub unmarked : bus.mode ≡ Plain → (h : ℕ) → IsUnmarked bus.copies h
 

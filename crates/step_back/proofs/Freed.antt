@@ -1,5 +1,6 @@
 -- the harts that an event let go, one by one
-use Rattle.std.proofs.Common.{◌≡◌, ◌≤◌, ◌<◌, ◌⊎◌, inl, inr, ℕ, ◌+◌, ◌-◌, List, [], ◌∷◌, ◌++◌, zero, suc, append-nil, append_assoc, arith, length}
+use Rattle.std.proofs.Common.{◌≡◌, ◌≤◌, ◌<◌, ◌⊎◌, inl, inr, ℕ, ◌+◌, ◌-◌, List, [], ◌∷◌, ◌++◌, zero, suc, append-nil}
+use Rattle.std.proofs.Common.{append_assoc, arith, length}
 use Rattle.std.proofs.Common.{length-append, replicate, refl, ap, sym, ◌∙◌, subst}
 use Rattle.std.specs.Prelude.{All}
 use Rattle.std.proofs.lemmas.Bool.{cases_lt}
@@ -17,9 +18,11 @@ use Rattle.step_back.proofs.Serials.{all-left, all-right}
 
 -- the first harts are the first part of the order
 prefix : (freed : Freed) (n k m : ℕ) → m ≡ n + k → (rest : List ℕ) × (order_below m freed ≡ order_below n freed ++ rest)
-prefix freed n zero m is = ([], ap (λ m. order_below m freed) (omega (arith, is)) ∙ sym (append-nil (order_below n freed)))
+prefix freed n zero m is =
+    ([], ap (λ m. order_below m freed) (omega (arith, is)) ∙ sym (append-nil (order_below n freed)))
 prefix freed n (suc k) m is =
-    let before : (rest : List ℕ) × (order_below (n + k) freed ≡ order_below n freed ++ rest) = prefix freed n k (n + k) refl in
+    let before : (rest : List ℕ) × (order_below (n + k) freed ≡ order_below n freed ++ rest) =
+    prefix freed n k (n + k) refl in
     let last : List ℕ = replicate (count_in freed (n + k)) (n + k) in
     let more : m ≡ n + k + 1 = omega (arith, is) in (
       before.0 ++ last,
@@ -32,17 +35,20 @@ pub record LetsGo (freed : Freed) (hart bound : ℕ) : Type 0 where
   pub exists : 1 ≤ count_in freed hart → hart < bound
   pub short : length (order_below hart freed) + count_in freed hart ≤ length (order_of freed)
 
-pub lets_go : (freed : Freed) (hart bound : ℕ) → hart < 8 → All (λ hart. hart < bound) (order_of freed) → LetsGo freed hart bound
+pub lets_go : (freed : Freed) (hart bound : ℕ) → hart < 8 → All (λ hart. hart < bound) (order_of freed) →
+    LetsGo freed hart bound
 unfolding order_of
 lets_go freed hart bound within exist =
     let before : List ℕ = order_below hart freed in
     let own : List ℕ = replicate (count_in freed hart) hart in
     let rest : (rest : List ℕ) × (order_below 8 freed ≡ order_below (hart + 1) freed ++ rest) =
     prefix freed (hart + 1) (8 - (hart + 1)) 8 (omega arith) in
-    let whole : order_of freed ≡ before ++ own ++ rest.0 = rest.1 ∙ ap (λ first. first ++ rest.0) (order_below-more hart freed) in
+    let whole : order_of freed ≡ before ++ own ++ rest.0 =
+    rest.1 ∙ ap (λ first. first ++ rest.0) (order_below-more hart freed) in
     let Exists : ℕ → Type 0 = λ hart. hart < bound in
     let Exist : List ℕ → Type 0 = All Exists in
-    let owns : All Exists own = all-right Exists before own (all-left Exists (before ++ own) rest.0 (subst Exist whole exist)) in
+    let owns : All Exists own =
+    all-right Exists before own (all-left Exists (before ++ own) rest.0 (subst Exist whole exist)) in
     record {
       exists = λ some.
           subst Exists (get_or-replicate (count_in freed hart) 0 hart hart some)

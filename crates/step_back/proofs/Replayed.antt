@@ -12,7 +12,8 @@ use Rattle.rv_flat.specs.FlatState.{start}
 use Rattle.rv_flat.specs.Run.{run}
 use Rattle.step_back.specs.Standing.{state_at}
 
-take-entries : (state : ModelState) (events : List Event) (place : ℕ) → take place (entries_from state events) ≡ entries_from state (take place events)
+take-entries : (state : ModelState) (events : List Event) (place : ℕ) →
+    take place (entries_from state events) ≡ entries_from state (take place events)
 take-entries state events zero = refl
 take-entries state [] (suc place) = refl
 take-entries state (event ∷ events) (suc place) =
@@ -20,7 +21,8 @@ take-entries state (event ∷ events) (suc place) =
     ap (λ entries. entry ∷ entries) (take-entries (next state event).state events place)
 
 pub replayed : (program : Program) (config : Config) (events : List Event) (place : ℕ) →
-    state_at program (entries_from (begin program config) events) place ≡ (after program config (take place events)).committed
+    state_at program (entries_from (begin program config) events) place
+    ≡ (after program config (take place events)).committed
 unfolding begin
 replayed program config events place =
     ap (λ entries. run (start program) (serial entries)) (take-entries (begin program config) events place)

@@ -6,7 +6,8 @@ use Rattle.el_base.specs.declared.events.Kind.TheVariants as kinds
 use Rattle.el_base.specs.declared.outcomes.Need.{Need}
 use Rattle.elf_image.specs.Program.{Program}
 use Rattle.el_model.specs.BusEvent.{IsOfBus}
-use Rattle.el_model.specs.Deed.{Arms, Begins, Buffers, Commits, Continues, Deed, DoesWhere, Elides, LetsGo, Misses, MissesInside, MissesOutside, Rests}
+use Rattle.el_model.specs.Deed.{Arms, Begins, Buffers, Commits, Continues, Deed, DoesWhere, Elides, LetsGo, Misses}
+use Rattle.el_model.specs.Deed.{MissesInside, MissesOutside, Rests}
 use Rattle.el_model.specs.Deed.{RollsBack, Runs, Waits, done, hart_after, outcome_of}
 use Rattle.el_model.specs.Next.{after, next}
 use Rattle.el_model.specs.State.{ModelState, begin, hart_of}
@@ -20,8 +21,8 @@ use Rattle.rv_flat.specs.Run.{alone}
 use Rattle.section_laws.proofs.Laws.Lengths.{AsMany, first_as_many, next_as_many, runs_exists}
 use Rattle.step_laws.specs.OwnSteps.{Does, OwnCommits, OwnDeeds, OwnOutcomes, OwnRollbacks, TellsOf}
 
-misses_running : (state : ModelState) (h line : ℕ) (need : Need) → MissesOutside state h line need ⊎ MissesInside state h line need →
-    status_of state.committed h ≡ Running
+misses_running : (state : ModelState) (h line : ℕ) (need : Need) →
+    MissesOutside state h line need ⊎ MissesInside state h line need → status_of state.committed h ≡ Running
 misses_running state h line need (inl misses) = misses.outside.running
 misses_running state h line need (inr misses) = misses.room.wants.goes.goes_on.is_short.inside.running
 
@@ -51,7 +52,8 @@ deed_stands state h (Continues armed) many does =
 deed_stands state h (LetsGo armed) many does =
     hart_of-with_hart_same state h _ (runs_exists state h many does.is_armed.running)
 
-does_deed : (state : ModelState) (event : Event) → event.kind ≡ kinds.Step → AsMany state → (deed : Deed) × Does state event deed
+does_deed : (state : ModelState) (event : Event) → event.kind ≡ kinds.Step → AsMany state →
+    (deed : Deed) × Does state event deed
 does_deed state event is many =
     let h = event.hart.number in
     let step = steps_are_deeds state event is in
@@ -64,12 +66,15 @@ does_deed state event is many =
     (step.deed, stands)
 
 always_as_many : (program : Program) (config : Config) (events : List Event) → AsMany (after program config events)
-always_as_many program config events = kept_after AsMany next_as_many (begin program config) events (first_as_many program config)
+always_as_many program config events =
+    kept_after AsMany next_as_many (begin program config) events (first_as_many program config)
 
 pub own_deeds : OwnDeeds
-own_deeds program config events event is = does_deed (after program config events) event is (always_as_many program config events)
+own_deeds program config events event is =
+    does_deed (after program config events) event is (always_as_many program config events)
 
-tells_of : (state : ModelState) (event : Event) (deed : Deed) → Does state event deed → TellsOf state event (outcome_of deed)
+tells_of : (state : ModelState) (event : Event) (deed : Deed) → Does state event deed →
+    TellsOf state event (outcome_of deed)
 tells_of state event Rests does = does
 tells_of state event Waits does = does
 tells_of state event (Misses line need) does = (line, refl, does)
@@ -101,7 +106,8 @@ own_commits program config events event count outcome =
     let state = after program config events in
     let h = event.hart.number in
     let step = is_step state event (λ bus. subst IsOfBus outcome bus) in
-    let (section, count_is, does) = subst (TellsOf state event) outcome (own_outcomes program config events event step) in
+    let (section, count_is, does) =
+    subst (TellsOf state event) outcome (own_outcomes program config events event step) in
     record {
       step = step;
       section = section;

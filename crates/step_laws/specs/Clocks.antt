@@ -23,7 +23,8 @@ abbrev pub AreRequestsUpTo : ℕ → List Request → Type 0
 AreRequestsUpTo most [] = Unit {0}
 AreRequestsUpTo most (request ∷ requests) = IsStampUpTo most request.stamp × AreRequestsUpTo most requests
 
--- what a hart has of clocks: its own, the greatest that it has seen, that of its open attempt and that of its raised request
+-- what a hart has of clocks: its own, the greatest that it has seen, that of its open attempt
+-- and that of its raised request
 pub record AreUpTo (most clock seen : ℕ) (attempt : Option Stamp) (raised : Option Request) : Type 0 where
   pub of_clock : clock ≤ most
   pub of_seen : seen ≤ most
@@ -42,4 +43,5 @@ pub record AreClocksUpTo (most : ℕ) (state : ModelState) : Type 0 where
 -- in every state that can be reached, no clock is greater than the number of the events
 abbrev pub ClocksAreFew : Type 0
 ClocksAreFew =
-    (program : Program) (config : Config) (events : List Event) → AreClocksUpTo (length events) (after program config events)
+    (program : Program) (config : Config) (events : List Event) →
+    AreClocksUpTo (length events) (after program config events)

@@ -7,8 +7,8 @@ use Rattle.el_model.specs.Next.{next}
 use Rattle.el_model.specs.State.{ModelState, Turn, hart_of}
 use Rattle.rv_flat.specs.Run.{run}
 
--- what is committed, but for the instructions that take effect as harts are let go, each hart's predictor, the configuration and how
--- many harts there are
+-- what is committed, but for the instructions that take effect as harts are let go, each hart's predictor, the
+-- configuration and how many harts there are
 pub record LeavesPredictors (state : ModelState) (h : ℕ) (turn : Turn) : Type 0 where
   pub committed : turn.state.committed ≡ run state.committed (taking_effect h turn.outcome)
   pub predictors : (g : ℕ) → (hart_of turn.state g).predictor ≡ (hart_of state g).predictor
@@ -22,12 +22,15 @@ pub record LeavesOthers (state new : ModelState) (h : ℕ) : Type 0 where
   pub config : new.config ≡ state.config
   pub count : length new.harts ≡ length state.harts
 
--- an event that is no step commits the instructions of the harts that it lets go and nothing else, and leaves each hart's predictor
+-- an event that is no step commits the instructions of the harts that it lets go and nothing else,
+-- and leaves each hart's predictor
 abbrev pub BusEventsKeep : Type 0
 BusEventsKeep =
-    (state : ModelState) (event : Event) → event.kind ≢ kinds.Step → LeavesPredictors state event.hart.number (next state event)
+    (state : ModelState) (event : Event) → event.kind ≢ kinds.Step →
+    LeavesPredictors state event.hart.number (next state event)
 
 -- a step leaves each other hart and the order of requests
 abbrev pub StepsKeepOthers : Type 0
 StepsKeepOthers =
-    (state : ModelState) (event : Event) → event.kind ≡ kinds.Step → LeavesOthers state (next state event).state event.hart.number
+    (state : ModelState) (event : Event) → event.kind ≡ kinds.Step →
+    LeavesOthers state (next state event).state event.hart.number

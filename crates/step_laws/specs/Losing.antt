@@ -21,9 +21,9 @@ pub record LosesItsSection (state : ModelState) (event : Event) (g winner : ℕ)
 -- a hart that an event names among its losers loses its live section
 abbrev pub OnlyLiveSectionsLose : Type 0
 OnlyLiveSectionsLose =
-    (program : Program) (config : Config) (events : List Event) (event : Event) (g winner : ℕ) → program.harts ≡ config.harts →
-    IsInRange config → winner_over (next (after program config events) event).outcome g ≡ Some winner →
-    LosesItsSection (after program config events) event g winner
+    (program : Program) (config : Config) (events : List Event) (event : Event) (g winner : ℕ) →
+    program.harts ≡ config.harts → IsInRange config → winner_over (next (after program config events) event).outcome g
+    ≡ Some winner → LosesItsSection (after program config events) event g winner
 
 -- a hart ends its section itself: by its step the section commits or is rolled back
 pub record EndsItself (state : ModelState) (event : Event) (h : ℕ) : Type 0 where
@@ -40,5 +40,6 @@ pub record IsBeaten (state : ModelState) (event : Event) (h : ℕ) : Type 0 wher
 abbrev pub WhatEndsASection : Type 0
 WhatEndsASection =
     (program : Program) (config : Config) (events : List Event) (event : Event) (h : ℕ) → program.harts ≡ config.harts →
-    IsInRange config → is_live (after program config events) h ≡ true → is_live (next (after program config events) event).state h ≡ false →
+    IsInRange config → is_live (after program config events) h ≡ true →
+    is_live (next (after program config events) event).state h ≡ false →
     EndsItself (after program config events) event h ⊎ IsBeaten (after program config events) event h

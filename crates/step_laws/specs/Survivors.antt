@@ -28,11 +28,13 @@ pub record KeepsSection (state new : ModelState) (g : ℕ) (section : Section) :
 -- a section that is live after such an event is the one from before it, with every bit that it had
 abbrev pub SurvivorsKeepBits : Type 0
 SurvivorsKeepBits =
-    (program : Program) (config : Config) (events : List Event) (event : Event) (g : ℕ) (section : Section) → IsNoStepOf g event →
-    section_of (after program config events) g ≡ Some section → is_live (next (after program config events) event).state g ≡ true →
+    (program : Program) (config : Config) (events : List Event) (event : Event) (g : ℕ) (section : Section) →
+    IsNoStepOf g event → section_of (after program config events) g ≡ Some section →
+    is_live (next (after program config events) event).state g ≡ true →
     KeepsSection (after program config events) (next (after program config events) event).state g section
 
--- and what it shows is the same: its private run is covered before and after, and what is committed has changed beside its hart alone
+-- and what it shows is the same: its private run is covered before and after, and what is committed
+-- has changed beside its hart alone
 pub record Survives (state new : ModelState) (g : ℕ) (section : Section) : Type 0 where
   pub keeps : KeepsSection state new g section
   pub covered : IsCoveredRun state.committed g (cache_of state g) section
@@ -43,7 +45,7 @@ pub record Survives (state new : ModelState) (g : ℕ) (section : Section) : Typ
 -- a section that is live after such an event survives it so, from a program whose memory is bytes
 abbrev pub SurvivorsKeepWhatTheyShow : Type 0
 SurvivorsKeepWhatTheyShow =
-    (program : Program) (config : Config) (events : List Event) (event : Event) (g : ℕ) (section : Section) → AreBytes program.bytes →
-    IsNoStepOf g event → section_of (after program config events) g ≡ Some section →
+    (program : Program) (config : Config) (events : List Event) (event : Event) (g : ℕ) (section : Section) →
+    AreBytes program.bytes → IsNoStepOf g event → section_of (after program config events) g ≡ Some section →
     is_live (next (after program config events) event).state g ≡ true →
     Survives (after program config events) (next (after program config events) event).state g section

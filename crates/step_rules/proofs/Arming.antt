@@ -1,5 +1,6 @@
 -- the rule of an LR at which its hart may arm, and the value that it finds
-use Rattle.std.proofs.Common.{◌≡◌, ◌∙◌, ◌≤◌, ◌%◌, ℕ, Bool, true, false, ◌&&◌, not, List, Option, None, Some, refl, ap, sym, if◌then◌else◌}
+use Rattle.std.proofs.Common.{◌≡◌, ◌∙◌, ◌≤◌, ◌%◌, ℕ, Bool, true, false, ◌&&◌, not, List, Option, None, Some, refl, ap}
+use Rattle.std.proofs.Common.{sym, if◌then◌else◌}
 use Rattle.std.specs.Prelude.{slice_index}
 use Rattle.residency.specs.Cache.{letter_of}
 use Rattle.cache_sets.specs.Cached.{Cached, bytes_of}
@@ -20,7 +21,8 @@ use Rattle.rv_flat.specs.FlatState.{FlatState}
 use Rattle.rv_flat.specs.Memory.{byte_in}
 use Rattle.snoop.specs.Shows.{BusState, Shows, Tells}
 use Rattle.step_rules.proofs.Laws.Begins.{readable_there, touching_same, word_told}
-use Rattle.step_rules.specs.Rules.{FindsOld, IfArms, IsOnLine, NeverArms, TellsOld, arming_rule, definition_plain, touching_rule}
+use Rattle.step_rules.specs.Rules.{FindsOld, IfArms, IsOnLine, NeverArms, TellsOld, arming_rule, definition_plain}
+use Rattle.step_rules.specs.Rules.{touching_rule}
 use Rattle.step_rules.specs.declared.plain.PlainRule as plain_rules
 use Rattle.step_rules.specs.declared.plain.PlainRule.TheVariants.{Arms, Begins, Misses, Runs}
 
@@ -42,7 +44,8 @@ record ArmsAt (cache : List (List Way)) (word found : ℕ) : Type 0 where
   same : found ≡ word
   readable : may_read (letter_of cache (line_number word)) ≡ true
 
-never_touching : {X : Type 0} (cache : List (List Way)) (touch : Option Touch) (found : ℕ) → PlainRule.Arms found ≡ touching_rule cache touch → X
+never_touching : {X : Type 0} (cache : List (List Way)) (touch : Option Touch) (found : ℕ) →
+    PlainRule.Arms found ≡ touching_rule cache touch → X
 never_touching cache None found is = absurd (cc)
 never_touching cache (Some touch) found is = by (may_of (letter_of cache touch.line) touch.need) is
   where
@@ -56,14 +59,16 @@ arms_at : (cache : List (List Way)) (wanted : Bool) (word : ℕ) (touch : Option
 arms_at cache wanted word touch found is = by (may_read (letter_of cache (line_number word))) (not wanted) refl is
   where
     by : (may open_line : Bool) → may_read (letter_of cache (line_number word)) ≡ may →
-        PlainRule.Arms found ≡ (if may && open_line then PlainRule.Arms word else touching_rule cache touch) → ArmsAt cache word found
+        PlainRule.Arms found ≡ (if may && open_line then PlainRule.Arms word else touching_rule cache touch) →
+        ArmsAt cache word found
     by true true may arms = record { same = cc; readable = may }
     by true false may arms = never_touching cache touch found arms
     by false open_line may arms = never_touching cache touch found arms
 
 -- the value that its cache has there is the committed one
-pub tells : (pool : Pooled) (bus : BusState) (state : ModelState) (h word : ℕ) (wanted : Bool) (touch : Option Touch) (rule : plain_rules.PlainRule) →
-    Tells pool bus (line_of state.committed) → IsOnLine state.committed → state.committed.base ≤ word → word % 4 ≡ 0 →
+pub tells : (pool : Pooled) (bus : BusState) (state : ModelState) (h word : ℕ) (wanted : Bool) (touch : Option Touch)
+    (rule : plain_rules.PlainRule) → Tells pool bus (line_of state.committed) → IsOnLine state.committed →
+    state.committed.base ≤ word → word % 4 ≡ 0 →
     definition_plain rule ≡ arming_rule (slotted_at bus.copies.caches h).residency wanted word touch →
     FindsOld rule (lent pool (slotted_at bus.copies.caches h)) → TellsOld rule state.committed
 tells pool bus state h word wanted touch (Runs ran) told on_line from aligned is found = tt
@@ -74,19 +79,21 @@ tells pool bus state h word wanted touch (Arms at old) told on_line from aligned
     let arms = arms_at cache wanted word touch at is in
     let there = readable_there cache (line_number word) arms.readable in
     found
-    ∙ ap (λ w. loaded (slice_index (bytes_of (lent pool (slotted_at bus.copies.caches h)) (line_number w))) (w % LINE_BYTES) 4) arms.same
+    ∙ ap (λ w. loaded (slice_index (bytes_of (lent pool (slotted_at bus.copies.caches h)) (line_number w)))
+    (w % LINE_BYTES) 4) arms.same
     ∙ word_told pool bus state h word told on_line from aligned there
     ∙ ap (λ w. loaded (byte_in state.committed.base state.committed.bytes) w 4) (sym arms.same)
 
 -- the rule is the definition's
-pub arms_shown : (bus : BusState) (state : ModelState) (h word : ℕ) (wanted : Bool) (touch : Option Touch) → Shows bus state →
-    touch ≡ next_touch state.committed h → wanted ≡ is_wanted_to_write state h (line_number word) →
+pub arms_shown : (bus : BusState) (state : ModelState) (h word : ℕ) (wanted : Bool) (touch : Option Touch) →
+    Shows bus state → touch ≡ next_touch state.committed h → wanted ≡ is_wanted_to_write state h (line_number word) →
     arming_rule (slotted_at bus.copies.caches h).residency wanted word touch ≡ reserve_rule state h (Some word)
 arms_shown bus state h word wanted touch shows touches asked =
     ap (λ cache. arming_rule cache wanted word touch) (shows.caches h)
     ∙ ap (λ waits. arming_rule (cache_of state h) waits word touch) asked
     ∙ ap (arming_rule (cache_of state h) (is_wanted_to_write state h (line_number word)) word) touches
     ∙ ap
-    (λ rule. if may_read (letter_of (cache_of state h) (line_number word)) && not (is_wanted_to_write state h (line_number word))
+    (λ rule. if may_read (letter_of (cache_of state h) (line_number word))
+    && not (is_wanted_to_write state h (line_number word))
     then PlainRule.Arms word else rule)
     (touching_same state h (next_touch state.committed h))

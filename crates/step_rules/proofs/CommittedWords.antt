@@ -13,7 +13,8 @@ use Rattle.step_rules.specs.Rules.{IsOnLine}
 
 -- a byte of an aligned word is at its place of the word's line
 line_byte : (flat : FlatState) (address k : ℕ) → IsOnLine flat → flat.base ≤ address → address % 4 ≡ 0 → k < 4 →
-    slice_index (line_of flat (line_number address)) (address % LINE_BYTES + k) ≡ byte_in flat.base flat.bytes (address + k)
+    slice_index (line_of flat (line_number address)) (address % LINE_BYTES + k)
+    ≡ byte_in flat.base flat.bytes (address + k)
 line_byte flat address k on_line from aligned small =
     let start = (line_number address - flat.base / LINE_BYTES) * 64 in
     get_or-take 64 (drop start flat.bytes) (address % LINE_BYTES + k) 0 (omega arith)
@@ -22,7 +23,8 @@ line_byte flat address k on_line from aligned small =
 
 -- the word in the bytes of its line is the one in memory
 pub committed_word : (flat : FlatState) (address : ℕ) → IsOnLine flat → flat.base ≤ address → address % 4 ≡ 0 →
-    loaded (slice_index (line_of flat (line_number address))) (address % LINE_BYTES) 4 ≡ loaded (byte_in flat.base flat.bytes) address 4
+    loaded (slice_index (line_of flat (line_number address))) (address % LINE_BYTES) 4
+    ≡ loaded (byte_in flat.base flat.bytes) address 4
 committed_word flat address on_line from aligned =
     loaded_from (slice_index (line_of flat (line_number address))) (byte_in flat.base flat.bytes)
     (address % LINE_BYTES) address 4

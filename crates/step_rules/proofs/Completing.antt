@@ -16,8 +16,8 @@ use Rattle.step_rules.specs.declared.in_section.Progress.{Progress}
 use Rattle.step_rules.specs.declared.upcoming.Exchange as exchanges
 
 -- what the section keeps of its word counts only where the SC is to that word
-same_where_own : (exchange : exchanges.Exchange) (progress : Progress) (shown : FlatState) (wanted : Bool) → HasOld progress shown →
-    completing_rule (told exchange progress.old) progress.word wanted
+same_where_own : (exchange : exchanges.Exchange) (progress : Progress) (shown : FlatState) (wanted : Bool) →
+    HasOld progress shown → completing_rule (told exchange progress.old) progress.word wanted
     ≡ completing_rule (swap_over (byte_in shown.base shown.bytes) exchange) progress.word wanted
 same_where_own exchange progress shown wanted old = by (exchange.word == progress.word) refl
   where
@@ -25,16 +25,20 @@ same_where_own exchange progress shown wanted old = by (exchange.word == progres
     byte = byte_in shown.base shown.bytes
 
     by : (own : Bool) → (exchange.word == progress.word) ≡ own →
-        (if own && changes_word (told exchange progress.old) && not wanted then ArmedRule.Elides (told exchange progress.old) else ArmedRule.LetsGo)
-        ≡ (if own && changes_word (swap_over byte exchange) && not wanted then ArmedRule.Elides (swap_over byte exchange) else ArmedRule.LetsGo)
+        (if own && changes_word (told exchange progress.old) && not wanted
+        then ArmedRule.Elides (told exchange progress.old) else ArmedRule.LetsGo)
+        ≡ (if own && changes_word (swap_over byte exchange) && not wanted
+        then ArmedRule.Elides (swap_over byte exchange) else ArmedRule.LetsGo)
     by true is =
         let value : progress.old ≡ loaded byte exchange.word 4 =
         old ∙ ap (λ word. loaded byte word 4) (sym (number_of_test exchange.word progress.word is)) in
-        ap (λ found. if changes_word (told exchange found) && not wanted then ArmedRule.Elides (told exchange found) else ArmedRule.LetsGo) value
+        ap (λ found. if changes_word (told exchange found) && not wanted then ArmedRule.Elides (told exchange found)
+        else ArmedRule.LetsGo) value
     by false is = refl
 
-pub completes_shown : (state : ModelState) (h : ℕ) (exchange : exchanges.Exchange) (progress : Progress) (shown : FlatState) (wanted : Bool) →
-    HasOld progress shown → wanted ≡ is_wanted_to_write state h (line_number progress.word) →
+pub completes_shown : (state : ModelState) (h : ℕ) (exchange : exchanges.Exchange) (progress : Progress)
+    (shown : FlatState) (wanted : Bool) → HasOld progress shown →
+    wanted ≡ is_wanted_to_write state h (line_number progress.word) →
     completing_rule (told exchange progress.old) progress.word wanted
     ≡ exchange_rule state h (armed_of progress) (Some (swap_over (byte_in shown.base shown.bytes) exchange))
 completes_shown state h exchange progress shown wanted old asked =

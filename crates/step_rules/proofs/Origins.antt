@@ -37,8 +37,9 @@ facts_of insn = record {
 abbrev no_facts : Facts
 no_facts = record { word_store = false; swap = false; reserve = false; conditional = false; call = false }
 
--- what an action that does not trap tells of its instruction: only SW stores all of a word and is no atomic operation, only a swap or an SC
--- exchanges one, only an LR reserves one, only an SC fails, and only a call exits, answers or appends
+-- what an action that does not trap tells of its instruction: only SW stores all of a word and is no
+-- atomic operation, only a swap or an SC exchanges one, only an LR reserves one, only an SC fails, and
+-- only a call exits, answers or appends
 abbrev pub facts_by : Action → Facts
 facts_by (actions.Exit code) = record no_facts { call = true }
 facts_by (actions.Answer value) = record no_facts { call = true }
@@ -60,12 +61,14 @@ comes-if insn true x y of_x of_y = of_x
 comes-if insn false x y of_x of_y = of_y
 
 comes-jump : (insn : Insn) (target : ℕ) (action : Action) → ComesOf insn action → ComesOf insn (jump_of target action)
-comes-jump insn target action of = comes-if insn (target % 4 == 0) action (actions.Trap instruction_address_misaligned) of tt
+comes-jump insn target action of =
+    comes-if insn (target % 4 == 0) action (actions.Trap instruction_address_misaligned) of tt
 
-comes-checked : (insn : Insn) (span : Span) (address size misaligned outside : ℕ) (action : Action) → ComesOf insn action →
-    ComesOf insn (checked_of span address size misaligned outside action)
+comes-checked : (insn : Insn) (span : Span) (address size misaligned outside : ℕ) (action : Action) →
+    ComesOf insn action → ComesOf insn (checked_of span address size misaligned outside action)
 comes-checked insn span address size misaligned outside action of =
-    comes-if insn (address % size == 0) (if holds span address size then action else actions.Trap outside) (actions.Trap misaligned)
+    comes-if insn (address % size == 0) (if holds span address size then action else actions.Trap outside)
+    (actions.Trap misaligned)
     (comes-if insn (holds span address size) action (actions.Trap outside) of tt) tt
 
 comes-write : (regs : List ℕ) (span : Span) (room : ℕ) → ComesOf insns.Ecall (write_call_of regs span room)
@@ -95,7 +98,8 @@ comes (insns.Branch test rs1 rs2 offset) pc regs reserved span room =
     let insn = insns.Branch test rs1 rs2 offset in
     comes-if insn (taken_of test (get regs rs1.number) (get regs rs2.number)) _ _
     (comes-jump insn (moved_of pc offset) (actions.Go (moved_of pc offset)) refl) refl
-comes (insns.Load width rd rs1 offset) pc regs reserved span room = comes-checked (insns.Load width rd rs1 offset) span _ _ _ _ _ refl
+comes (insns.Load width rd rs1 offset) pc regs reserved span room =
+    comes-checked (insns.Load width rd rs1 offset) span _ _ _ _ _ refl
 comes (insns.Store widths.Byte rs1 rs2 offset) pc regs reserved span room =
     comes-checked (insns.Store widths.Byte rs1 rs2 offset) span _ _ _ _ _ refl
 comes (insns.Store widths.Half rs1 rs2 offset) pc regs reserved span room =

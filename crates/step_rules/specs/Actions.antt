@@ -33,13 +33,15 @@ swap_by byte _ = None
 
 -- where it is a store conditional that succeeds
 abbrev pub conditional_by : (ℕ → ℕ) → Action → Option Swap
-conditional_by byte (actions.StoreConditional rd address value) = Some (record { word = address; old = loaded byte address 4; new = value })
+conditional_by byte (actions.StoreConditional rd address value) =
+    Some (record { word = address; old = loaded byte address 4; new = value })
 conditional_by byte _ = None
 
 -- and where it is either, and so exchanges a word
 abbrev pub exchange_by : (ℕ → ℕ) → Action → Option Swap
 exchange_by byte (actions.Amo op rd address source) = swap_by byte (actions.Amo op rd address source)
-exchange_by byte (actions.StoreConditional rd address value) = Some (record { word = address; old = loaded byte address 4; new = value })
+exchange_by byte (actions.StoreConditional rd address value) =
+    Some (record { word = address; old = loaded byte address 4; new = value })
 exchange_by byte _ = None
 
 -- the word that an action reserves

@@ -1,5 +1,6 @@
 -- the rules as the code has them, and what they rest on
-use Rattle.std.specs.Prelude.{ℕ, suc, ◌≡◌, ◌%◌, Bool, false, List, Option, None, Some, not, option_map, ◌==◌, ◌&&◌, ◌||◌, if◌then◌else◌}
+use Rattle.std.specs.Prelude.{ℕ, suc, ◌≡◌, ◌%◌, Bool, false, List, Option, None, Some, not, option_map, ◌==◌, ◌&&◌}
+use Rattle.std.specs.Prelude.{◌||◌, if◌then◌else◌}
 use Rattle.std.specs.Prelude.{nat_lt, slice_index}
 use Rattle.residency.specs.Cache.{letter_of, room_of, write_bits_of}
 use Rattle.cache_sets.specs.Cached.{Cached, bytes_of}
@@ -68,10 +69,11 @@ MayElide state h may = may ≡ may_elide state.config.mode (hart_of state h) (vi
 abbrev pub touching_rule : List (List Way) → Option Touch → PlainRule
 touching_rule cache None = PlainRule.Runs None
 touching_rule cache (Some touch) =
-    if may_of (letter_of cache touch.line) touch.need then PlainRule.Runs (Some touch) else PlainRule.Misses touch.line touch.need
+    if may_of (letter_of cache touch.line) touch.need then PlainRule.Runs (Some touch)
+    else PlainRule.Misses touch.line touch.need
 
--- a swap that may be elided, whose line the cache has: one that changes its word begins a section, unless another hart waits to
--- write there
+-- a swap that may be elided, whose line the cache has: one that changes its word begins a section, unless
+-- another hart waits to write there
 abbrev pub beginning_rule : List (List Way) → Bool → Swap → Option Touch → PlainRule
 beginning_rule cache wanted swap touch =
     if not (changes_word swap) then touching_rule cache touch
@@ -81,7 +83,8 @@ beginning_rule cache wanted swap touch =
 -- an LR at which its hart may arm
 abbrev pub arming_rule : List (List Way) → Bool → ℕ → Option Touch → PlainRule
 arming_rule cache wanted word touch =
-    if may_read (letter_of cache (line_number word)) && not wanted then PlainRule.Arms word else touching_rule cache touch
+    if may_read (letter_of cache (line_number word)) && not wanted then PlainRule.Arms word
+    else touching_rule cache touch
 
 -- any action where acquires may be elided
 abbrev pub acquiring_rule : ModelState → ℕ → Option Swap → PlainRule

@@ -11,7 +11,8 @@ use Rattle.el_base.specs.Winners.{winner_over}
 use Rattle.el_base.specs.declared.entries.Entry.{Entry}
 use Rattle.el_base.specs.declared.outcomes.Outcome.{Outcome}
 use Rattle.el_base.specs.declared.outcomes.Outcome.TheVariants.{Idle, Stalled, Missed, Ran, Began, Buffered}
-use Rattle.el_base.specs.declared.outcomes.Outcome.TheVariants.{Committed, RolledBack, Ordered, Served, Blocked, Delivered, Armed, LetGo}
+use Rattle.el_base.specs.declared.outcomes.Outcome.TheVariants.{Committed, RolledBack, Ordered, Served, Blocked}
+use Rattle.el_base.specs.declared.outcomes.Outcome.TheVariants.{Delivered, Armed, LetGo}
 use Rattle.timetable.specs.Table.{is_winner, times_of}
 
 -- how many of the eight harts a winner is
@@ -46,15 +47,18 @@ eight_more : (f g whole : ℕ → ℕ) → ((w : ℕ) → whole w ≡ f w + g w)
 eight_more f g whole each =
     omega (arith, each 0, each 1, each 2, each 3, each 4, each 5, each 6, each 7)
 
-all_losses : (h : ℕ) (entries : List Entry) → eight (λ w. times_of h w entries) ≡ sum_by (λ entry. cond (has_lost h entry.outcome) 1 0) entries
+all_losses : (h : ℕ) (entries : List Entry) →
+    eight (λ w. times_of h w entries) ≡ sum_by (λ entry. cond (has_lost h entry.outcome) 1 0) entries
 all_losses h [] = refl
 all_losses h (entry ∷ entries) =
-    eight_more (λ w. cond (is_winner w (winner_over entry.outcome h)) 1 0) (λ w. times_of h w entries) (λ w. times_of h w (entry ∷ entries))
+    eight_more (λ w. cond (is_winner w (winner_over entry.outcome h)) 1 0) (λ w. times_of h w entries)
+    (λ w. times_of h w (entry ∷ entries))
     (λ w. sum_by-cons (λ e. cond (is_winner w (winner_over e.outcome h)) 1 0) entry entries)
     ∙ ap (λ n. n + eight (λ w. times_of h w entries)) (one_winner entry.outcome h)
     ∙ ap (λ n. cond (has_lost h entry.outcome) 1 0 + n) (all_losses h entries)
     ∙ sym (sum_by-cons (λ e. cond (has_lost h e.outcome) 1 0) entry entries)
 
-pub losses_are_conflicts : (h : ℕ) (entries : List Entry) → sum (map (λ w. times_of h w entries) (range_with_len 0 8)) ≡ (tally_of h entries).conflict
+pub losses_are_conflicts : (h : ℕ) (entries : List Entry) →
+    sum (map (λ w. times_of h w entries) (range_with_len 0 8)) ≡ (tally_of h entries).conflict
 unfolding tally_of of_entry
 losses_are_conflicts h entries = all_losses h entries

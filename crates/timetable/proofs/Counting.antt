@@ -1,5 +1,6 @@
 -- What one event changes in the row of a hart.
-use Rattle.std.proofs.Common.{◌≡◌, ◌≢◌, ℕ, ◌+◌, ◌<◌, ◌==◌, ◌&&◌, ◌||◌, Bool, true, false, cond, List, get_or, length, Option, None, Some, refl, ap}
+use Rattle.std.proofs.Common.{◌≡◌, ◌≢◌, ℕ, ◌+◌, ◌<◌, ◌==◌, ◌&&◌, ◌||◌, Bool, true, false, cond, List, get_or, length}
+use Rattle.std.proofs.Common.{Option, None, Some, refl, ap}
 use Rattle.std.proofs.Common.{sym, ◌∙◌, arith}
 use Rattle.std.specs.Prelude.{nat_lt}
 use Rattle.std.proofs.lemmas.Bool.Decides.{nat_tests}
@@ -10,7 +11,8 @@ use Rattle.el_base.specs.Winners.{winner_over}
 use Rattle.el_base.specs.declared.entries.Entry.{Entry}
 use Rattle.el_base.specs.declared.outcomes.Outcome.{Outcome}
 use Rattle.el_base.specs.declared.outcomes.Outcome.TheVariants.{Idle, Stalled, Missed, Ran, Began, Buffered}
-use Rattle.el_base.specs.declared.outcomes.Outcome.TheVariants.{Committed, RolledBack, Ordered, Served, Blocked, Delivered, Armed, LetGo}
+use Rattle.el_base.specs.declared.outcomes.Outcome.TheVariants.{Committed, RolledBack, Ordered, Served, Blocked}
+use Rattle.el_base.specs.declared.outcomes.Outcome.TheVariants.{Delivered, Armed, LetGo}
 use Rattle.timetable.specs.Costs.{units_at}
 use Rattle.timetable.specs.Counting.{Follows, after_loss, after_others, after_own, one_more_loss}
 use Rattle.timetable.specs.Rows.{losses_at, no_losses}
@@ -41,7 +43,8 @@ lost_to : (row : HartTimes) (winner : ℕ) → length row.to ≡ 8 → (w : ℕ)
     losses_at (after_loss row winner) w ≡ cond b (one_more_loss row.unsettled (losses_at row w)) (losses_at row w)
 lost_to row winner places w small true e =
     let same : winner ≡ w = grind (arith, nat_tests) in
-    get_or-set_at row.to winner w (one_more_loss row.unsettled (losses_at row winner)) no_losses (sym same) (omega (arith, same, places, small))
+    get_or-set_at row.to winner w (one_more_loss row.unsettled (losses_at row winner)) no_losses (sym same)
+    (omega (arith, same, places, small))
     ∙ ap (λ n. one_more_loss row.unsettled (losses_at row n)) same
 lost_to row winner places w small false e =
     let other : w ≢ winner = grind (arith, nat_tests) in
@@ -68,11 +71,13 @@ loss_follows h winner entry old own e lost places = record {
     stays true = own_unsettled_stays old entry.outcome h winner lost
     stays false = refl
 
-    charged : (own : Bool) → (entry.event.hart.number == h) ≡ own → (after_any own old entry.outcome).units + 10 ≡ old.units + units_at h entry
+    charged : (own : Bool) → (entry.event.hart.number == h) ≡ own →
+        (after_any own old entry.outcome).units + 10 ≡ old.units + units_at h entry
     charged true e = grind (arith, e, lost)
     charged false e = grind (arith, e, lost)
 
-    settled : (b : Bool) → winner_over entry.outcome h ≡ Some winner → 0 ≡ cond (b || has_lost h entry.outcome || nat_lt 0 (freed_by entry.outcome h)) 0
+    settled : (b : Bool) → winner_over entry.outcome h ≡ Some winner →
+        0 ≡ cond (b || has_lost h entry.outcome || nat_lt 0 (freed_by entry.outcome h)) 0
         (cond (adds h entry) (old.unsettled + 1) old.unsettled)
     settled true lost = refl
     settled false lost = rw lost refl
@@ -101,9 +106,11 @@ unfolding units_at
 rest_follows h entry old own e kept = by own e (nat_lt 0 (freed_by entry.outcome h)) refl
   where
     row : Bool → Bool → HartTimes
-    row own freed = cond freed (record (after_any own old entry.outcome) { unsettled = 0 }) (after_any own old entry.outcome)
+    row own freed =
+        cond freed (record (after_any own old entry.outcome) { unsettled = 0 }) (after_any own old entry.outcome)
 
-    charged : (own freed : Bool) → (entry.event.hart.number == h) ≡ own → (row own freed).units ≡ old.units + units_at h entry
+    charged : (own freed : Bool) → (entry.event.hart.number == h) ≡ own →
+        (row own freed).units ≡ old.units + units_at h entry
     charged true true e = grind (arith, e, kept)
     charged true false e = grind (arith, e, kept)
     charged false true e = grind (arith, e, kept)
@@ -128,8 +135,8 @@ rest_follows h entry old own e kept = by own e (nat_lt 0 (freed_by entry.outcome
     same false true = refl
     same false false = refl
 
-    by : (own : Bool) → (entry.event.hart.number == h) ≡ own → (freed : Bool) → nat_lt 0 (freed_by entry.outcome h) ≡ freed →
-        Follows h entry old (row own freed)
+    by : (own : Bool) → (entry.event.hart.number == h) ≡ own → (freed : Bool) →
+        nat_lt 0 (freed_by entry.outcome h) ≡ freed → Follows h entry old (row own freed)
     by own e freed f = record {
       units = charged own freed e;
       unsettled = settled own freed e f;

@@ -11,7 +11,8 @@ row_in : (entries : List Entry) (h : ℕ) → h < 8 → row_at (table_of entries
 unfolding table_of
 row_in entries h small = get_or-map-range_with_len (λ h. row_of h entries) 0 8 h h no_row small (omega arith)
 
-losses_in : (entries : List Entry) (h w : ℕ) → h < 8 → w < 8 → losses_at (row_at (table_of entries) h) w ≡ losses_of h w entries
+losses_in : (entries : List Entry) (h w : ℕ) → h < 8 → w < 8 →
+    losses_at (row_at (table_of entries) h) w ≡ losses_of h w entries
 unfolding row_of
 losses_in entries h w small below =
     ap (λ row. losses_at row w) (row_in entries h small)
@@ -25,10 +26,12 @@ pub lost_read : (entries : List Entry) (h : ℕ) → h < 8 → lost_in (table_of
 unfolding row_of
 lost_read entries h small = ap (λ (row : HartTimes). row.lost) (row_in entries h small)
 
-pub times_read : (entries : List Entry) (h w : ℕ) → h < 8 → w < 8 → times_in (table_of entries) h w ≡ times_of h w entries
+pub times_read : (entries : List Entry) (h w : ℕ) → h < 8 → w < 8 →
+    times_in (table_of entries) h w ≡ times_of h w entries
 times_read entries h w small below = ap (λ (losses : Losses). losses.times) (losses_in entries h w small below)
 
-pub instr_read : (entries : List Entry) (h w : ℕ) → h < 8 → w < 8 → instr_in (table_of entries) h w ≡ instr_of h w entries
+pub instr_read : (entries : List Entry) (h w : ℕ) → h < 8 → w < 8 →
+    instr_in (table_of entries) h w ≡ instr_of h w entries
 instr_read entries h w small below = ap (λ (losses : Losses). losses.instr) (losses_in entries h w small below)
 
 -- what a table says of each hart

@@ -24,7 +24,8 @@ since_last : (h : ℕ) (entry : Entry) (before : List Entry) (b : Bool) → sett
     (count_by (adds h) (take_while (λ entry. not (settles h entry)) before)))
 since_last h entry before true e = refl
 since_last h entry before false e =
-    sum_by-cons (λ x. cond (adds h x) 1 0) entry (take_while (λ entry. not (settles h entry)) before) ∙ one (adds h entry) _
+    sum_by-cons (λ x. cond (adds h x) 1 0) entry (take_while (λ entry. not (settles h entry)) before)
+    ∙ one (adds h entry) _
   where
     one : (b : Bool) (n : ℕ) → cond b 1 0 + n ≡ cond b (n + 1) n
     one true n = omega arith

@@ -39,11 +39,13 @@ after_others row None freed = if nat_lt 0 freed then record row { unsettled = 0 
 -- what one more event changes in the row of a hart
 pub record Follows (h : ℕ) (entry : Entry) (old new : HartTimes) : Type 0 where
   pub units : new.units ≡ old.units + units_at h entry
-  pub unsettled : new.unsettled ≡ (if settles h entry then 0 else if adds h entry then old.unsettled + 1 else old.unsettled)
+  pub unsettled : new.unsettled
+      ≡ (if settles h entry then 0 else if adds h entry then old.unsettled + 1 else old.unsettled)
   pub lost : new.lost ≡ old.lost + (if has_lost h entry.outcome then old.unsettled else 0)
   pub same_places : length new.to ≡ length old.to
   pub to : (w : ℕ) → w < 8 → losses_at new w ≡
-      (if is_winner w (winner_over entry.outcome h) then one_more_loss old.unsettled (losses_at old w) else losses_at old w)
+      (if is_winner w (winner_over entry.outcome h) then one_more_loss old.unsettled (losses_at old w)
+      else losses_at old w)
 
 -- the most events that a history can have, and the most units that they can come to for a hart
 abbrev pub most_events : ℕ

@@ -1,5 +1,6 @@
 -- The table of a history: for each hart sums over the entries and the places.
-use Rattle.std.specs.Prelude.{ℕ, Bool, false, ◌==◌, if◌then◌else◌, List, Option, None, Some, is_some, length, map, take, slice_get, sum, sum_by, count_by}
+use Rattle.std.specs.Prelude.{ℕ, Bool, false, ◌==◌, if◌then◌else◌, List, Option, None, Some, is_some, length, map, take}
+use Rattle.std.specs.Prelude.{slice_get, sum, sum_by, count_by}
 use Rattle.std.specs.List.{range_with_len}
 use Rattle.std.specs.Option.{option_and_then}
 use Rattle.el_base.specs.Winners.{winner_over}

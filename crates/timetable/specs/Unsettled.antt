@@ -4,7 +4,8 @@ use Rattle.chronicle.specs.Tally.{has_lost}
 use Rattle.el_base.specs.Freed.{count_in}
 use Rattle.el_base.specs.declared.entries.Entry.{Entry}
 use Rattle.el_base.specs.declared.outcomes.Outcome.{Outcome}
-use Rattle.el_base.specs.declared.outcomes.Outcome.TheVariants.{Armed, Began, Buffered, Committed, LetGo, Ordered, RolledBack, Served}
+use Rattle.el_base.specs.declared.outcomes.Outcome.TheVariants.{Armed, Began, Buffered, Committed, LetGo, Ordered}
+use Rattle.el_base.specs.declared.outcomes.Outcome.TheVariants.{RolledBack, Served}
 
 -- one instruction of the event's hart ran in private
 abbrev pub is_private : Outcome → Bool

@@ -15,8 +15,8 @@ use Rattle.tool.specs.Stopping.{StopsRead, StopsWith}
 use Rattle.tool.proofs.Files.{some_file}
 
 -- a configuration is refused whatever the image
-pub config_refused : (job : RunJob) (told : Option Contents) (fault : ConfigFault) → config_fault (config_of job) ≡ Some fault →
-    IsRunAnswer job told (refused (Config fault))
+pub config_refused : (job : RunJob) (told : Option Contents) (fault : ConfigFault) →
+    config_fault (config_of job) ≡ Some fault → IsRunAnswer job told (refused (Config fault))
 config_refused job told fault found =
     let image : (file : List ℕ) × Holds told job.image file = some_file told job.image in
     record { image = image.0; image_file = image.1; exact = rw found refl }

@@ -32,21 +32,24 @@ same_entries (one ∷ some) (other ∷ others) made came =
     grind (arith, made, came, rest)
 
 -- a story of one run has the entries that the definition makes of its events
-as_made : (story : Story) → IsOneRun story → story.entries ≡ entries_from (begin story.program story.config) (events story.entries)
+as_made : (story : Story) → IsOneRun story →
+    story.entries ≡ entries_from (begin story.program story.config) (events story.entries)
 as_made story run =
     let first = begin story.program story.config in
-    same_entries story.entries (entries_from first (events story.entries)) (sym (events-entries_from first (events story.entries)))
+    same_entries story.entries (entries_from first (events story.entries))
+    (sym (events-entries_from first (events story.entries)))
     (run.outcomes ∙ sym (outcomes-entries_from first (events story.entries)))
 
 -- its serial order fits a certificate
-pub history_fits : (story : Story) → IsOneRun story → length story.entries ≤ story.config.steps → IsInRange story.config →
-    story.program.harts ≡ story.config.harts →
+pub history_fits : (story : Story) → IsOneRun story → length story.entries ≤ story.config.steps →
+    IsInRange story.config → story.program.harts ≡ story.config.harts →
     All (λ event. event.hart.number < story.config.harts) (events story.entries) →
     All (CanBeRecorded story.config.harts story.config.long) (outcomes story.entries) →
     IsHistoryOf story.program story.entries
 history_fits story run within in_range same exist can =
     let made : List Event = events story.entries in
-    let steps : story.config.steps ≤ 16777216 = at_most 1 16777216 story.config.steps (ranges story.config in_range).steps in
+    let steps : story.config.steps ≤ 16777216 =
+    at_most 1 16777216 story.config.steps (ranges story.config in_range).steps in
     let no_longer : length (serial (entries_from (begin story.program story.config) made)) ≤ length made =
     serial_order_is_no_longer story.program story.config made in
     let serial_few : length (serial story.entries) ≤ length made =
@@ -80,11 +83,13 @@ reached_harts story hart same below =
 
 -- the same of a copy of the program
 pub copy_reached : (image : Program) (story : Story) → image ≡ story.program → IsStateOf image (committed story)
-copy_reached image story same = subst (λ (program : Program). IsStateOf program (committed story)) (sym same) (reached story)
+copy_reached image story same =
+    subst (λ (program : Program). IsStateOf program (committed story)) (sym same) (reached story)
 
-pub copy_fits : (image : Program) (story : Story) (history : Chronicle) → image ≡ story.program → history ≡ history_of story →
-    IsOneRun story → length story.entries ≤ story.config.steps → IsInRange story.config →
-    story.program.harts ≡ story.config.harts → All (λ event. event.hart.number < story.config.harts) (events story.entries) →
+pub copy_fits : (image : Program) (story : Story) (history : Chronicle) → image ≡ story.program →
+    history ≡ history_of story → IsOneRun story → length story.entries ≤ story.config.steps → IsInRange story.config →
+    story.program.harts ≡ story.config.harts →
+    All (λ event. event.hart.number < story.config.harts) (events story.entries) →
     All (CanBeRecorded story.config.harts story.config.long) (outcomes story.entries) →
     IsHistoryOf image history.entries
 copy_fits image story history same is run within in_range one_each exist can =

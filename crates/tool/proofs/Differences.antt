@@ -1,5 +1,6 @@
 -- Where a replay differs from what was recorded, by what a driver says of it.
-use Rattle.std.proofs.Common.{◌≡◌, ◌∙◌, ◌<◌, ℕ, Bool, true, false, List, [], ◌++◌, length, nat_lt, Some, refl, ap, sym, subst, arith}
+use Rattle.std.proofs.Common.{◌≡◌, ◌∙◌, ◌<◌, ℕ, Bool, true, false, List, [], ◌++◌, length, nat_lt, Some, refl, ap, sym}
+use Rattle.std.proofs.Common.{subst, arith}
 use Rattle.std.specs.Prelude.{slice_get}
 use Rattle.std.specs.Option.{option_map}
 use Rattle.std.proofs.lemmas.Bool.{ltb-false, ltb-true}
@@ -41,14 +42,15 @@ pub record Differing (story later : Story) (recorded : List Outcome) (place : �
   pub within : place < length recorded
   pub there : place < length later.entries
 
-pub differing_at : (story later : Story) (made : List Event) (recorded : List Outcome) (place : ℕ) → story.entries ≡ [] →
-    length recorded ≡ length made → later ≡ continued story made →
+pub differing_at : (story later : Story) (made : List Event) (recorded : List Outcome) (place : ℕ) →
+    story.entries ≡ [] → length recorded ≡ length made → later ≡ continued story made →
     IsFirstDifference recorded (outcomes_from (state_of story) made) place → Differing story later recorded place
 differing_at story later made recorded place new one_each goes first =
     let found : outcomes_from (state_of story) made ≡ outcomes later.entries =
     found_is story made new ∙ ap (λ (one : Story). outcomes one.entries) (sym goes) in
     let many = length-outcomes_from (state_of story) made in
-    let within = first_within recorded (outcomes_from (state_of story) made) place (omega (arith, one_each, many)) first in
+    let within =
+    first_within recorded (outcomes_from (state_of story) made) place (omega (arith, one_each, many)) first in
     let as_many : length (outcomes_from (state_of story) made) ≡ length later.entries =
     ap length found ∙ length-map later.entries (λ entry. entry.outcome) in
     record {

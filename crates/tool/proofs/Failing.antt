@@ -5,7 +5,8 @@ use Rattle.command_line.specs.Words.{Job, Run, Replay, Look, Find, Check, Gen, R
 use Rattle.el_base.specs.Config.{config_fault}
 use Rattle.el_base.specs.declared.config.ConfigFault.{ConfigFault}
 use Rattle.el_io.specs.Shelf.{Contents, NamedCall}
-use Rattle.tool.specs.Causes.{Failures, FileRead, IsWithin, ListsOne, MayWrite, ReadFailed, calls_of, calls_under, certificate_read, image_read}
+use Rattle.tool.specs.Causes.{Failures, FileRead, IsWithin, ListsOne, MayWrite, ReadFailed, calls_of, calls_under}
+use Rattle.tool.specs.Causes.{certificate_read, image_read}
 use Rattle.tool.specs.Causes.{read_call, reads_of, reads_under, run_writes, trace_read, writes_of, writes_to}
 use Rattle.tool.specs.Jobs.{besides_run}
 use Rattle.tool.specs.Answer.{Answer}
@@ -24,7 +25,8 @@ read_is_call told (file ∷ files) calls before now (inl failed) = inl failed
 read_is_call told (file ∷ files) calls before now (inr later) = inr (read_is_call told files calls before now later.1)
 
 under : (told : Option Contents) (found : Option ConfigFault) (file : FileRead) (calls before now : List NamedCall) →
-    ReadFailed told (reads_under found (file ∷ [])) before now → ListsOne (calls_under found (read_call file ∷ calls)) before now
+    ReadFailed told (reads_under found (file ∷ [])) before now →
+    ListsOne (calls_under found (read_call file ∷ calls)) before now
 under told (Some found) file calls before now none = none
 under told None file calls before now failed = read_is_call told (file ∷ []) calls before now failed
 
@@ -49,8 +51,9 @@ pub failed_behind : (told : Option Contents) (file : FileRead) (files : List Fil
 failed_behind told file files before now within failed = inr (within, failed)
 
 -- what is left to write of a replay is among its calls
-pub replay_writes_are_calls : (job : ReplayJob) (made : Made) (before now : List NamedCall) → MayWrite job.written made →
-    ListsOne (writes_of made) before now → ListsOne (calls_of (Some (Replay job))) before now
+pub replay_writes_are_calls : (job : ReplayJob) (made : Made) (before now : List NamedCall) →
+    MayWrite job.written made → ListsOne (writes_of made) before now →
+    ListsOne (calls_of (Some (Replay job))) before now
 replay_writes_are_calls job made before now (inl same) listed =
     inr (inr (subst (λ calls. ListsOne calls before now) same listed))
 replay_writes_are_calls job made before now (inr none) listed =

@@ -1,5 +1,6 @@
 -- Files that a shelf may hold, and what was read of them.
-use Rattle.std.proofs.Common.{◌≡◌, ℕ, ◌+◌, ◌<◌, true, nat_lt, List, [], length, replicate, Option, None, Some, refl, ap, arith}
+use Rattle.std.proofs.Common.{◌≡◌, ℕ, ◌+◌, ◌<◌, true, nat_lt, List, [], length, replicate, Option, None, Some, refl, ap}
+use Rattle.std.proofs.Common.{arith}
 use Rattle.std.proofs.lemmas.List.{length-replicate}
 use Rattle.std.proofs.lemmas.Bool.Decides.{nat_tests}
 use Rattle.std.specs.Prelude.{IfSome, slice_index}
@@ -26,7 +27,8 @@ size_refused limit file over =
     rw passes refl
 
 -- a file that a read found over its limit may be over it
-pub over_limit : (told : Option Contents) (name : List ℕ) (limit : ℕ) → IfSome told (λ contents. limit < length (contents name)) →
+pub over_limit : (told : Option Contents) (name : List ℕ) (limit : ℕ) →
+    IfSome told (λ contents. limit < length (contents name)) →
     (file : List ℕ) × Holds told name file × (size_refusal limit file ≡ Some (TooBig limit))
 over_limit None name limit over =
     let zeros : List ℕ = replicate (limit + 1) 0 in
@@ -45,5 +47,6 @@ pub harts_of_trace : (file : List ℕ) (config : Config) (made : List Event) (re
 harts_of_trace file config made recorded trace = spelled_harts file config made recorded trace.spelled
 
 -- and a certificate
-pub harts_of_certificate : (file : List ℕ) (content : Content) → IsCertificateOf file content → harts_of file ≡ content.harts
+pub harts_of_certificate : (file : List ℕ) (content : Content) → IsCertificateOf file content →
+    harts_of file ≡ content.harts
 harts_of_certificate file content certificate = ap (λ bytes. slice_index bytes 5) certificate.spelled

@@ -1,5 +1,6 @@
 -- What was put and written of an answer.
-use Rattle.std.proofs.Common.{◌≡◌, ℕ, List, [], ◌∷◌, ◌++◌, length, map, take, take_all, Bool, Option, None, Some, Result, Ok, Err, true, refl, ap}
+use Rattle.std.proofs.Common.{◌≡◌, ℕ, List, [], ◌∷◌, ◌++◌, length, map, take, take_all, Bool, Option, None, Some}
+use Rattle.std.proofs.Common.{Result, Ok, Err, true, refl, ap}
 use Rattle.std.proofs.Common.{subst, sym, ◌∙◌, inl, inr, arith}
 use Rattle.std.specs.Result.{OnErr}
 use Rattle.std.proofs.lemmas.List.{map-append}
@@ -71,9 +72,9 @@ unwritten_faults had has before now answer Device took failed same others =
     inr (answer, refl, inr (inl (record { out = took; written = failed; failed = others; err = same })))
 
 -- and it is one of the writes of the run
-pub unwritten_causes : (had has : Failures) (before now : Option Contents) (besides : Besides) (story : Story) (fault : Fault) →
-    Unwritten (files_of besides story) had.shelf has.shelf before now fault → has ≡ record had { shelf = has.shelf } →
-    Caused (run_writes besides) true (status_of_fault fault) had has
+pub unwritten_causes : (had has : Failures) (before now : Option Contents) (besides : Besides) (story : Story)
+    (fault : Fault) → Unwritten (files_of besides story) had.shelf has.shelf before now fault →
+    has ≡ record had { shelf = has.shelf } → Caused (run_writes besides) true (status_of_fault fault) had has
 unwritten_causes had has before now besides story Device failed others =
     inl (
       subst (λ calls. ListsOne calls had.shelf has.shelf) (writes_named besides story)

@@ -1,5 +1,6 @@
 -- A replay of the trace that a run wrote says what the run said.
-use Rattle.std.proofs.Common.{◌≡◌, ◌≢◌, ℕ, ◌+◌, ◌*◌, ◌/◌, ◌<◌, ◌≤◌, ◌-◌, false, nat_lt, List, [], ◌++◌, length, get_or, Option, None, Some, refl, ap}
+use Rattle.std.proofs.Common.{◌≡◌, ◌≢◌, ℕ, ◌+◌, ◌*◌, ◌/◌, ◌<◌, ◌≤◌, ◌-◌, false, nat_lt, List, [], ◌++◌, length, get_or}
+use Rattle.std.proofs.Common.{Option, None, Some, refl, ap}
 use Rattle.std.proofs.Common.{sym, subst, ◌∙◌, inl, inr, arith}
 use Rattle.std.specs.Prelude.{All, Bool, true, not, if◌then◌else◌, slice_get}
 use Rattle.std.proofs.lemmas.List.Elements.{All-append}
@@ -38,22 +39,26 @@ use Rattle.tool.specs.declared.refusal.Refusal.{Refusal}
 use Rattle.tool.specs.declared.status.Status.TheVariants.{Differs, Done, HartFailed, StepLimit}
 use Rattle.tool.specs.Ending.{all_succeeded, ending}
 use Rattle.el_model.specs.Next.{is_over}
-use Rattle.tool.specs.Answer.{Answer, Besides, WrittenFile, certified_by, ended, files_of, times_if, where_named, written_by}
-use Rattle.tool.specs.Jobs.{DriversMade, FollowAnswer, IsReplayed, MakesRun, RanAnswer, ReplayAnswer, RunAnswer, UnlessRefused, besides_replay}
+use Rattle.tool.specs.Answer.{Answer, Besides, WrittenFile, certified_by, ended, files_of, times_if, where_named}
+use Rattle.tool.specs.Answer.{written_by}
+use Rattle.tool.specs.Jobs.{DriversMade, FollowAnswer, IsReplayed, MakesRun, RanAnswer, ReplayAnswer, RunAnswer}
+use Rattle.tool.specs.Jobs.{UnlessRefused, besides_replay}
 use Rattle.tool.specs.Jobs.{besides_run, first_story}
 use Rattle.tool.specs.Laws.{SaysTheSame}
 use Rattle.tool.proofs.Files.{spelled_harts}
 use Rattle.step_back.proofs.Laws.Recording.{are_recordable}
 use Rattle.tool.proofs.TraceLengths.{length-spelling}
-use Rattle.tool.specs.Refusals.{config_refusal, image_refusal, replay_refusal, run_refusal, size_refusal, trace_limit, trace_refusal}
+use Rattle.tool.specs.Refusals.{config_refusal, image_refusal, replay_refusal, run_refusal, size_refusal, trace_limit}
+use Rattle.tool.specs.Refusals.{trace_refusal}
 
 -- The events of a run
 
 -- each event of a round robin is of a hart that there is
-harts-made : (state : ModelState) (harts left : ℕ) (made : List Event) → 1 ≤ harts → IsRoundRobin state harts left made →
-    All (λ event. event.hart.number < harts) made
+harts-made : (state : ModelState) (harts left : ℕ) (made : List Event) → 1 ≤ harts →
+    IsRoundRobin state harts left made → All (λ event. event.hart.number < harts) made
 harts-made state harts left made some round = λ k d within.
-    let turn : IsEventAt harts k (get_or made k d) = round.turns k (get_or made k d) (slice_get-get_or made k d within) in
+    let turn : IsEventAt harts k (get_or made k d) =
+    round.turns k (get_or made k d) (slice_get-get_or made k d within) in
     rw turn.hart (mod-lt (k / 4) some)
 
 -- What a run that wrote a file had
@@ -77,7 +82,9 @@ written-story : (besides : Besides) (name : List ℕ) (story : Story) (file : Wr
     file.bytes ≡ spelling story.config (events story.entries) (Some (outcomes story.entries))
 written-story besides name story file named written =
     let first : Some (written_by story name) ≡ Some file =
-    sym (ap (λ (trace : Option (List ℕ)). slice_get (where_named (written_by story) trace ++ where_named (certified_by story) besides.cert) 0) named)
+    sym
+    (ap (λ (trace : Option (List ℕ)).
+    slice_get (where_named (written_by story) trace ++ where_named (certified_by story) besides.cert) 0) named)
     ∙ written in
     ap (λ (one : Option WrittenFile). option_map_or (λ (given : WrittenFile). given.bytes) one []) (sym first)
 
@@ -88,7 +95,8 @@ record Drove (config : Config) (before driven : Story) : Type 0 where
   steps : length made ≤ left_of before
   harts : All (λ event. event.hart.number < config.harts) made
 
-drove : (threads : Option ℕ) (before driven : Story) → DriversMade threads before driven → Drove before.config before driven
+drove : (threads : Option ℕ) (before driven : Story) → DriversMade threads before driven →
+    Drove before.config before driven
 drove None before driven same = record {
   made = [];
   story = same ∙ sym (nothing_more before);
@@ -149,7 +157,8 @@ all-made threads before later some run =
     let first_few : length first.made ≤ left_of before = first.steps in
     let others : All (λ event. event.hart.number < before.config.harts) rest.made =
     harts-made (state_of run.driven) before.config.harts _ rest.made some
-    (subst (λ (settings : Config). IsRoundRobin (state_of run.driven) settings.harts (left_of run.driven) rest.made) config
+    (subst (λ (settings : Config). IsRoundRobin (state_of run.driven) settings.harts (left_of run.driven) rest.made)
+    config
     rest.round_robin) in
     record {
       made = first.made ++ rest.made;
@@ -157,7 +166,9 @@ all-made threads before later some run =
           rest.story ∙ ap (λ (story : Story). continued story rest.made) first.story
           ∙ continued_twice before first.made rest.made;
       steps = omega (arith, length-append first.made rest.made, left, few, first_few);
-      harts = All-append (λ (event : Event). event.hart.number < before.config.harts) first.made rest.made first.harts others;
+      harts =
+          All-append (λ (event : Event). event.hart.number < before.config.harts) first.made rest.made
+          first.harts others;
     }
 
 run-ran : (job : RunJob) (image name bytes : List ℕ) (ran : Answer) → job.trace ≡ Some name → RunAnswer job image ran →
@@ -167,8 +178,11 @@ run-ran job image name bytes ran named answers written =
     let p : Program = program_of image config.harts in
     let file : WrittenFile = record { name = name; bytes = bytes } in
     let done = not-refused (run_refusal job image) (RanAnswer job p config) ran file written answers in
-    let configured = or_none (config_refusal config) (option_or (size_refusal file_limit image) (option_or (image_refusal image config.harts) None)) done.0 in
-    let sized = or_none (size_refusal file_limit image) (option_or (image_refusal image config.harts) None) configured.1 in
+    let configured =
+    or_none (config_refusal config)
+    (option_or (size_refusal file_limit image) (option_or (image_refusal image config.harts) None)) done.0 in
+    let sized =
+    or_none (size_refusal file_limit image) (option_or (image_refusal image config.harts) None) configured.1 in
     let accepted = or_none (image_refusal image config.harts) None sized.1 in
     let in_range = map_none _ _ configured.0 in
     let inside = ranges config in_range in
@@ -207,22 +221,24 @@ trace-fits : (config : Config) (made : List Event) (recorded : Option (List Outc
 trace-fits config made recorded file trace spelled =
     let inside = ranges config trace.in_range in
     let long : length file ≤ 22 + 10 * length made =
-    subst (λ (bytes : List ℕ). length bytes ≤ 22 + 10 * length made) (sym spelled) (length-spelling config made recorded) in
+    subst (λ (bytes : List ℕ). length bytes ≤ 22 + 10 * length made) (sym spelled)
+    (length-spelling config made recorded) in
     let steps : config.steps ≤ 16777216 = at_most 1 16777216 config.steps inside.steps in
     let within : length file ≤ trace_limit = omega (arith, trace.few) in
     let fits : nat_lt trace_limit (length file) ≡ false = grind (arith, nat_tests) in
     rw fits refl
 
 -- no refusal stands where none of the list does
-replay-accepted : (image trace : List ℕ) (harts : ℕ) → size_refusal file_limit image ≡ None → size_refusal trace_limit trace ≡ None →
-    trace_refusal trace ≡ None
+replay-accepted : (image trace : List ℕ) (harts : ℕ) → size_refusal file_limit image ≡ None →
+    size_refusal trace_limit trace ≡ None → trace_refusal trace ≡ None
     → (config_at trace).harts ≡ harts → image_refusal image harts ≡ None → replay_refusal image trace ≡ None
 replay-accepted image trace harts a b c e d = rw (a, b, c, e, d) refl
 
 -- a replay of these events, of which these outcomes are recorded
 same-trace : (besides : Besides) (image : List ℕ) (config other : Config) (made others : List Event)
     (found theirs : Option (List Outcome)) (answer : Answer) → config ≡ other → made ≡ others → found ≡ theirs →
-    IsReplayed besides theirs (story_of image other others) answer → IsReplayed besides found (story_of image config made) answer
+    IsReplayed besides theirs (story_of image other others) answer →
+    IsReplayed besides found (story_of image config made) answer
 same-trace besides image config other made others found theirs answer c m r exact = rw (c, m, r) exact
 
 -- where the outcomes that came are those that are recorded, none differs
@@ -241,8 +257,8 @@ ends-otherwise story = by (not (is_over (state_of story))) (all_succeeded (commi
     by false false is = absurd cc
 
 -- so a replay of the trace that a run wrote says what the run said
-pub repeats : (job : RunJob) (again : ReplayJob) (image name bytes : List ℕ) (ran other : Answer) → job.trace ≡ Some name →
-    again.times ≡ job.times → RunAnswer job image ran →
+pub repeats : (job : RunJob) (again : ReplayJob) (image name bytes : List ℕ) (ran other : Answer) →
+    job.trace ≡ Some name → again.times ≡ job.times → RunAnswer job image ran →
     slice_get ran.written 0 ≡ Some (record { name = name; bytes = bytes }) →
     ReplayAnswer (besides_replay again) image bytes other → SaysTheSame ran other × (other.status ≢ Differs)
 repeats job again image name bytes ran other named times answers written replay =

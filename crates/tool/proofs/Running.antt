@@ -8,7 +8,8 @@ use Rattle.tool.specs.declared.made.Certified.{Certified}
 use Rattle.tool.specs.Answer.{ended}
 use Rattle.tool.specs.Jobs.{DriversMade, MakesRun, first_story}
 
-drivers_keep : (threads : Option ℕ) (before driven : Story) → DriversMade threads before driven → driven.program ≡ before.program
+drivers_keep : (threads : Option ℕ) (before driven : Story) → DriversMade threads before driven →
+    driven.program ≡ before.program
 drivers_keep None before driven same = ap (λ (story : Story). story.program) same
 drivers_keep (Some turns) before driven drivers = ap (λ (story : Story). story.program) drivers.by_turns.story
 
@@ -20,9 +21,9 @@ runs_its_program threads program config later run =
     ∙ drivers_keep threads (first_story program config) run.driven run.drivers
 
 -- so a copy of the image that was loaded is of the program that has run
-pub copies_what_ran : (certified : Option Certified) (threads : Option ℕ) (program : Program) (config : Config) (later : Story) →
-    MakesRun threads (first_story program config) later → IfSome certified (λ copy. copy.image ≡ program) →
-    IfSome certified (λ copy. copy.image ≡ later.program)
+pub copies_what_ran : (certified : Option Certified) (threads : Option ℕ) (program : Program) (config : Config)
+    (later : Story) → MakesRun threads (first_story program config) later →
+    IfSome certified (λ copy. copy.image ≡ program) → IfSome certified (λ copy. copy.image ≡ later.program)
 copies_what_ran None threads program config later run copies = copies
 copies_what_ran (Some copy) threads program config later run copies =
     copies ∙ sym (runs_its_program threads program config later run)

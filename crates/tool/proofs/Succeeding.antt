@@ -11,8 +11,8 @@ use Rattle.tool.specs.Ending.{all_succeeded, has_succeeded}
 pub harts-committed : (story : Story) → length (committed story).harts ≡ story.program.harts
 harts-committed story = harts-run (start story.program) (serial story.entries) ∙ start_harts story.program
 
-pub one_failed : (state : FlatState) (hart : ℕ) → hart < length state.harts → has_succeeded (view_of state hart).status ≡ false →
-    all_succeeded state.harts ≡ false
+pub one_failed : (state : FlatState) (hart : ℕ) → hart < length state.harts →
+    has_succeeded (view_of state hart).status ≡ false → all_succeeded state.harts ≡ false
 one_failed state hart within failed =
     list_all_at (λ view. has_succeeded view.status) state.harts hart no_hart within failed
 
@@ -28,8 +28,9 @@ one_more_succeeded state hart within before succeeded =
 pub ruleset ending_steps = (one_failed, one_more_succeeded, harts-committed)
 
 -- every hart was looked at
-pub all_looked_at : (story : Story) (looked : ℕ) → story.program.harts ≡ story.config.harts → looked ≡ story.config.harts →
-    all_succeeded (take looked (committed story).harts) ≡ true → true ≡ all_succeeded (committed story).harts
+pub all_looked_at : (story : Story) (looked : ℕ) → story.program.harts ≡ story.config.harts →
+    looked ≡ story.config.harts → all_succeeded (take looked (committed story).harts) ≡ true →
+    true ≡ all_succeeded (committed story).harts
 all_looked_at story looked one_each all succeeded =
     let whole : length (committed story).harts ≤ looked = omega (arith, harts-committed story) in
     sym (ap all_succeeded (sym (take_all looked (committed story).harts whole)) ∙ succeeded)

@@ -1,5 +1,6 @@
 -- What `look` and `find` answer, from what was found in files.
-use Rattle.std.proofs.Common.{◌≡◌, ◌∙◌, ℕ, ◌-◌, ◌<◌, ◌≤◌, ◌^◌, List, [], ◌∷◌, length, Option, None, refl, ap, subst, sym, arith}
+use Rattle.std.proofs.Common.{◌≡◌, ◌∙◌, ℕ, ◌-◌, ◌<◌, ◌≤◌, ◌^◌, List, [], ◌∷◌, length, Option, None, refl, ap, subst}
+use Rattle.std.proofs.Common.{sym, arith}
 use Rattle.el_base.proofs.Laws.Ranges.{at_most, ranges}
 use Rattle.el_base.specs.declared.config.Config.{Config}
 use Rattle.el_base.specs.declared.events.Event.{Event}
@@ -30,15 +31,15 @@ use Rattle.tool.specs.Stopping.{IsTraceOf, StopsRead, StopsWith, hart_stop, plac
 use Rattle.tool.proofs.Files.{some_file}
 
 -- an image that is too big is refused whatever the trace
-pub image_not_looked_at : (job : LookJob) (told : Option Contents) (stop : Stop) → StopsRead told job.image file_limit stop →
-    StopsWith (IsLookAnswer job told) stop
+pub image_not_looked_at : (job : LookJob) (told : Option Contents) (stop : Stop) →
+    StopsRead told job.image file_limit stop → StopsWith (IsLookAnswer job told) stop
 image_not_looked_at job told (Refused refusal) stopped =
     let file : (bytes : List ℕ) × Holds told job.trace bytes = some_file told job.trace in
     record { image = stopped.0; trace = file.0; image_file = stopped.1; trace_file = file.1; exact = rw stopped.2 refl }
 image_not_looked_at job told (Failed fault) stopped = tt
 
-pub image_not_sought_in : (job : FindJob) (told : Option Contents) (stop : Stop) → StopsRead told job.image file_limit stop →
-    StopsWith (IsFindAnswer job told) stop
+pub image_not_sought_in : (job : FindJob) (told : Option Contents) (stop : Stop) →
+    StopsRead told job.image file_limit stop → StopsWith (IsFindAnswer job told) stop
 image_not_sought_in job told (Refused refusal) stopped =
     let file : (bytes : List ℕ) × Holds told job.trace bytes = some_file told job.trace in
     record { image = stopped.0; trace = file.0; image_file = stopped.1; trace_file = file.1; exact = rw stopped.2 refl }
@@ -52,16 +53,18 @@ events_counted file config made recorded trace few =
     ap events_at trace.spelled ∙ number_again (length made) (body made recorded) few
 
 -- of a trace there are few
-few_made : {config : Config} {made : List Event} {recorded : Option (List Outcome)} → IsTrace config made recorded → length made < 2 ^ 32
+few_made : {config : Config} {made : List Event} {recorded : Option (List Outcome)} → IsTrace config made recorded →
+    length made < 2 ^ 32
 few_made {config} trace =
     let inside = ranges config trace.in_range in
     let steps : config.steps ≤ 16777216 = at_most 1 16777216 config.steps inside.steps in
     omega (arith, trace.few)
 
 -- the story that a trace tells of an image
-told_of_trace : (image file : List ℕ) (config : Config) (made : List Event) (recorded : Option (List Outcome)) (program : Program) →
-    program ≡ program_of image config.harts → IsTraceOf file config made recorded →
-    IsStoryOf image file (record { program = program; config = config; entries = entries_from (begin program config) made })
+told_of_trace : (image file : List ℕ) (config : Config) (made : List Event) (recorded : Option (List Outcome))
+    (program : Program) → program ≡ program_of image config.harts → IsTraceOf file config made recorded →
+    IsStoryOf image file
+    (record { program = program; config = config; entries = entries_from (begin program config) made })
 told_of_trace image file config made recorded program is trace = record {
   config = config;
   made = made;
@@ -77,51 +80,63 @@ none_found : (trace image other : Option Refusal) → trace ≡ None → image �
 none_found trace image other first second third = rw (first, second, third) refl
 
 -- a file spells a trace, and another is the image of a program for as many harts
-pub record AreRead (image file : List ℕ) (config : Config) (made : List Event) (recorded : Option (List Outcome)) (program : Program) : Type 0 where
+pub record AreRead (image file : List ℕ) (config : Config) (made : List Event) (recorded : Option (List Outcome))
+    (program : Program) : Type 0 where
   pub trace : IsTraceOf file config made recorded
   pub harts : (config_at file).harts ≡ config.harts
   pub accepted : fault image config.harts ≡ None
   pub program_is : program ≡ program_of image config.harts
 
 -- neither is refused then
-trace_accepted : {image file : List ℕ} {config : Config} {made : List Event} {recorded : Option (List Outcome)} {program : Program} →
-    AreRead image file config made recorded program → trace_refusal file ≡ None
+trace_accepted : {image file : List ℕ} {config : Config} {made : List Event} {recorded : Option (List Outcome)}
+    {program : Program} → AreRead image file config made recorded program → trace_refusal file ≡ None
 trace_accepted read = rw read.trace.accepted refl
 
-image_accepted : {image file : List ℕ} {config : Config} {made : List Event} {recorded : Option (List Outcome)} {program : Program} →
-    AreRead image file config made recorded program → image_refusal image (config_at file).harts ≡ None
+image_accepted : {image file : List ℕ} {config : Config} {made : List Event} {recorded : Option (List Outcome)}
+    {program : Program} → AreRead image file config made recorded program →
+    image_refusal image (config_at file).harts ≡ None
 image_accepted read = rw (read.harts, read.accepted) refl
 
 -- a place of that story is what is told of it
-pub place_shown : (job : LookJob) (image file : List ℕ) (config : Config) (made : List Event) (recorded : Option (List Outcome))
+pub place_shown : (job : LookJob) (image file : List ℕ) (config : Config) (made : List Event)
+    (recorded : Option (List Outcome))
     (program : Program) (events place : ℕ) (shown : Standing) → AreRead image file config made recorded program →
     events ≡ length made → place_refusal job events ≡ None → place ≡ job.place - job.back →
     shown ≡ (record { program = program; entries = entries_from (begin program config) made; place = place }) →
     (place_stop job image file ≡ None) × PlaceAnswer job image file (looked shown)
 place_shown job image file config made recorded program events place shown read counted passed is standing =
-    let head : events_at file ≡ events = events_counted file config made recorded read.trace (few_made read.trace.is_trace) ∙ sym counted in (
+    let head : events_at file ≡ events =
+    events_counted file config made recorded read.trace (few_made read.trace.is_trace) ∙ sym counted in (
       none_found (trace_refusal file) (image_refusal image (config_at file).harts) (place_refusal job (events_at file))
           (trace_accepted read) (image_accepted read) (ap (place_refusal job) head ∙ passed),
       record {
         story = record { program = program; config = config; entries = entries_from (begin program config) made };
         told = told_of_trace image file config made recorded program read.program_is read.trace;
-        exact = ap looked (standing ∙ ap (λ at. record { program = program; entries = entries_from (begin program config) made; place = at }) is);
+        exact =
+            ap looked
+            (standing
+            ∙ ap
+            (λ at. record { program = program; entries = entries_from (begin program config) made; place = at })
+            is);
       },
     )
 
 -- and so are its places at which a hart comes to a pc
-pub places_found : (job : FindJob) (image file : List ℕ) (config : Config) (made : List Event) (recorded : Option (List Outcome))
+pub places_found : (job : FindJob) (image file : List ℕ) (config : Config) (made : List Event)
+    (recorded : Option (List Outcome))
     (program : Program) (hart : ℕ) (standing : Standing) → AreRead image file config made recorded program →
     hart_refusal job config.harts ≡ None → hart ≡ job.hart → hart < config.harts →
     standing ≡ (record { program = program; entries = entries_from (begin program config) made; place = 0 }) →
-    (hart_stop job image file ≡ None) × PlacesAnswer job image file (found standing.program standing.entries hart job.pc)
+    (hart_stop job image file ≡ None) × PlacesAnswer job image file
+    (found standing.program standing.entries hart job.pc)
     × (hart < standing.program.harts)
 places_found job image file config made recorded program hart standing read passed is exists stands =
     let harts : standing.program.harts ≡ config.harts =
     ap (λ (at : Standing). at.program.harts) stands
     ∙ ap (λ (one : Program). one.harts) read.program_is
     ∙ loaded_harts image config.harts in (
-      none_found (trace_refusal file) (image_refusal image (config_at file).harts) (hart_refusal job (config_at file).harts)
+      none_found (trace_refusal file) (image_refusal image (config_at file).harts)
+          (hart_refusal job (config_at file).harts)
           (trace_accepted read) (image_accepted read) (ap (hart_refusal job) read.harts ∙ passed),
       record {
         story = record { program = program; config = config; entries = entries_from (begin program config) made };

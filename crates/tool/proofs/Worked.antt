@@ -10,7 +10,8 @@ use Rattle.tool.specs.declared.refusal.Refusal.TheVariants.{Usage, Config, TooBi
 use Rattle.tool.specs.Messages.{config_fault_text, line_of, newline, wrote_line}
 use Rattle.tool.specs.Ending.{all_succeeded}
 
-usage : line_of Usage ≡ codes "usage: elide run IMAGE [options], elide replay IMAGE TRACE, elide gen KIND NUMBER FILE" ++ newline
+usage : line_of Usage ≡ codes "usage: elide run IMAGE [options], elide replay IMAGE TRACE, elide gen KIND NUMBER FILE"
+    ++ newline
 unfolding line_of
 usage = refl
 
@@ -30,23 +31,28 @@ empty_image : line_of (Image (record { number = 1; place = 0 })) ≡ codes "imag
 unfolding line_of digits
 empty_image = refl
 
-image_of_another_abi : line_of (Image (record { number = 8; place = 36 })) ≡ codes "image fault 8 Flags at byte 36" ++ newline
+image_of_another_abi : line_of (Image (record { number = 8; place = 36 }))
+    ≡ codes "image fault 8 Flags at byte 36" ++ newline
 unfolding line_of digits
 image_of_another_abi = refl
 
-image_too_wide : line_of (Image (record { number = 13; place = 28 })) ≡ codes "image fault 13 TooWide at byte 28" ++ newline
+image_too_wide : line_of (Image (record { number = 13; place = 28 }))
+    ≡ codes "image fault 13 TooWide at byte 28" ++ newline
 unfolding line_of digits
 image_too_wide = refl
 
-image_without_a_segment : line_of (Image (record { number = 16; place = 44 })) ≡ codes "image fault 16 Empty at byte 44" ++ newline
+image_without_a_segment : line_of (Image (record { number = 16; place = 44 }))
+    ≡ codes "image fault 16 Empty at byte 44" ++ newline
 unfolding line_of digits
 image_without_a_segment = refl
 
-trace_of_no_harts : line_of (Trace (record { number = 4; place = 5 })) ≡ codes "trace fault 4 Config at byte 5" ++ newline
+trace_of_no_harts : line_of (Trace (record { number = 4; place = 5 }))
+    ≡ codes "trace fault 4 Config at byte 5" ++ newline
 unfolding line_of digits
 trace_of_no_harts = refl
 
-trace_with_a_byte_more : line_of (Trace (record { number = 6; place = 55 })) ≡ codes "trace fault 6 Tail at byte 55" ++ newline
+trace_with_a_byte_more : line_of (Trace (record { number = 6; place = 55 }))
+    ≡ codes "trace fault 6 Tail at byte 55" ++ newline
 unfolding line_of digits
 trace_with_a_byte_more = refl
 

@@ -26,13 +26,15 @@ first_both (file ∷ files) others before between now first later =
     inr (first.0, first.1, first_both files others first.0 between now first.2 later)
 
 failed_both : (files others : List WrittenFile) (had has : List NamedCall) (before between now : Option Contents) →
-    Wrote before between files → WriteFailed others had has between now → WriteFailed (files ++ others) had has before now
+    Wrote before between files → WriteFailed others had has between now →
+    WriteFailed (files ++ others) had has before now
 failed_both [] others had has before between now same later =
     subst (λ from. WriteFailed others had has from now) same later
 failed_both (file ∷ files) others had has before between now first later =
     inr (first.0, first.1, failed_both files others had has first.0 between now first.2 later)
 
-pub unwritten_behind : (files others : List WrittenFile) (had has : List NamedCall) (before between now : Option Contents)
+pub unwritten_behind : (files others : List WrittenFile) (had has : List NamedCall)
+    (before between now : Option Contents)
     (fault : Fault) → Wrote before between files → Unwritten others had has between now fault →
     Unwritten (files ++ others) had has before now fault
 unwritten_behind files others had has before between now Device first later =
@@ -79,8 +81,8 @@ listed [] had has before now none = absurd none
 listed (file ∷ files) had has before now (inl failed) = inl failed.0
 listed (file ∷ files) had has before now (inr rest) = inr (listed files had has rest.0 now rest.2)
 
-pub unwritten_lists : (files : List WrittenFile) (had has : List NamedCall) (before now : Option Contents) (fault : Fault) →
-    Unwritten files had has before now fault → FaultLists (map write_of files) had has fault
+pub unwritten_lists : (files : List WrittenFile) (had has : List NamedCall) (before now : Option Contents)
+    (fault : Fault) → Unwritten files had has before now fault → FaultLists (map write_of files) had has fault
 unwritten_lists files had has before now Device failed = listed files had has before now failed
 unwritten_lists files had has before now NoMemory kept = kept.0
 
@@ -89,9 +91,10 @@ pub one_written : (file : WrittenFile) (before now : Option Contents) → KeepsO
     Holds now file.name file.bytes → Wrote before now (file ∷ [])
 one_written file before now keeps holds = (now, (keeps, holds), refl)
 
-pub one_unwritten : (file : WrittenFile) (fault : ShelfFault) (had has : List NamedCall) (before now : Option Contents) →
-    KeepsOthers before now file.name → (fault ≡ shelf_faults.NoMemory → now ≡ before) → (fault ≢ shelf_faults.TooBig) →
-    Records {T = Unit {0}} (Err fault) had has (Write, file.name) → Unwritten (file ∷ []) had has before now (fault_of_shelf fault)
+pub one_unwritten : (file : WrittenFile) (fault : ShelfFault) (had has : List NamedCall)
+    (before now : Option Contents) → KeepsOthers before now file.name → (fault ≡ shelf_faults.NoMemory → now ≡ before) →
+    (fault ≢ shelf_faults.TooBig) → Records {T = Unit {0}} (Err fault) had has (Write, file.name) →
+    Unwritten (file ∷ []) had has before now (fault_of_shelf fault)
 one_unwritten file shelf_faults.Failed had has before now keeps same never listed = inl (listed, keeps)
 one_unwritten file shelf_faults.TooBig had has before now keeps same never listed = absurd (never refl)
 one_unwritten file shelf_faults.NoMemory had has before now keeps same never listed = (listed, inl (same refl))

@@ -92,5 +92,7 @@ abbrev pub Comes : (Answer → Type 0) → Status → Told → Told → Type 0
 Comes Answers NoMemory before now =
     PutNothing before now
     ⊎ ((answer : Answer) × Answers answer × (PutOut before now answer ⊎ PutFiles before now answer))
-Comes Answers DeviceFault before now = PutNothing before now ⊎ ((answer : Answer) × Answers answer × PutPart before now answer)
-Comes Answers status before now = (answer : Answer) × Answers answer × (status ≡ answer.status) × PutAll before now answer
+Comes Answers DeviceFault before now =
+    PutNothing before now ⊎ ((answer : Answer) × Answers answer × PutPart before now answer)
+Comes Answers status before now =
+    (answer : Answer) × Answers answer × (status ≡ answer.status) × PutAll before now answer

@@ -26,7 +26,8 @@ WriteFailed (file ∷ files) had has before now =
     ⊎ ((between : Option Contents) × WroteFile before between file × WriteFailed files had has between now)
 
 -- the files were left unwritten by a fault: at one whose write failed, or behind the first of them
-abbrev pub Unwritten : List WrittenFile → List NamedCall → List NamedCall → Option Contents → Option Contents → Fault → Type 0
+abbrev pub Unwritten : List WrittenFile → List NamedCall → List NamedCall → Option Contents →
+    Option Contents → Fault → Type 0
 Unwritten files had has before now Device = WriteFailed files had has before now
 Unwritten files had has before now NoMemory = (has ≡ had) × WroteFirst before now files
 

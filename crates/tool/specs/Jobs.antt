@@ -1,7 +1,8 @@
 -- What the program answers to its words, over files.
 use Rattle.std.specs.Prelude.{◌≡◌, ◌≤◌, ◌⊎◌, ℕ, ◌-◌, List, [], length, Option, None, Some, MatchOption}
 use Rattle.command_line.specs.Settings.{config_of}
-use Rattle.command_line.specs.Words.{Job, Run, Replay, Look, Find, Check, Gen, FindJob, LookJob, ReplayJob, RunJob, job_of}
+use Rattle.command_line.specs.Words.{Job, Run, Replay, Look, Find, Check, Gen, FindJob, LookJob, ReplayJob, RunJob}
+use Rattle.command_line.specs.Words.{job_of}
 use Rattle.drive.specs.Drivers.{MakesRoundRobin, MakesTurns}
 use Rattle.el_base.specs.declared.events.Event.{Event}
 use Rattle.el_base.specs.declared.config.Config.{Config}
@@ -104,7 +105,8 @@ UnlessRefused found Answers answer = MatchOption found (Answers answer) (λ refu
 -- to run an image file
 abbrev pub RunAnswer : RunJob → List ℕ → Answer → Type 0
 RunAnswer job image answer =
-    UnlessRefused (run_refusal job image) (RanAnswer job (program_of image (config_of job).harts) (config_of job)) answer
+    UnlessRefused (run_refusal job image) (RanAnswer job (program_of image (config_of job).harts) (config_of job))
+    answer
 
 -- to replay a trace on an image file
 abbrev pub ReplayAnswer : Besides → List ℕ → List ℕ → Answer → Type 0
@@ -161,7 +163,8 @@ pub record IsFindAnswer (job : FindJob) (told : Option Contents) (answer : Answe
   pub trace_file : Holds told job.trace trace
   pub exact : FindAnswer job image trace answer
 
-pub record IsCheckAnswer (image_name certificate_name : List ℕ) (told : Option Contents) (answer : Answer) : Type 0 where
+pub record IsCheckAnswer (image_name certificate_name : List ℕ) (told : Option Contents)
+    (answer : Answer) : Type 0 where
   pub image : List ℕ
   pub certificate : List ℕ
   pub image_file : Holds told image_name image

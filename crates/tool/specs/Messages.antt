@@ -56,7 +56,8 @@ wrote_line count = codes "wrote " ++ decimal count ++ codes " bytes" ++ newline
 
 -- the line of a certificate that holds: the steps of its serial order, and the bytes of its output
 abbrev pub holds_line : ℕ → ℕ → List ℕ
-holds_line serial output = codes "certificate holds, serial " ++ decimal serial ++ codes " out " ++ decimal output ++ newline
+holds_line serial output =
+    codes "certificate holds, serial " ++ decimal serial ++ codes " out " ++ decimal output ++ newline
 
 -- the line of a replay in which another outcome came than the recorded one: at which event, and both by their bytes
 -- in a trace, in hexadecimal

@@ -12,7 +12,8 @@ use Rattle.file_numbers.specs.Numbers.{number_at}
 use Rattle.run_check.specs.Faults.{certificate_fault, harts_of}
 use Rattle.trace_file.specs.Faults.{config_at, trace_fault}
 use Rattle.tool.specs.declared.refusal.Refusal.{Refusal}
-use Rattle.tool.specs.declared.refusal.Refusal.TheVariants.{Config, TooBig, Image, Trace, Certificate, PlaceOverEnd, BackOverStart, NoSuchHart}
+use Rattle.tool.specs.declared.refusal.Refusal.TheVariants.{Config, TooBig, Image, Trace, Certificate, PlaceOverEnd}
+use Rattle.tool.specs.declared.refusal.Refusal.TheVariants.{BackOverStart, NoSuchHart}
 
 -- the most bytes that a trace may have
 abbrev pub trace_limit : ℕ
@@ -36,7 +37,8 @@ image_refusal file harts = option_map Image (fault file harts)
 
 -- a file is no trace
 abbrev pub trace_refusal : List ℕ → Option Refusal
-trace_refusal file = option_map (λ found. Trace (record { number = found.number; place = found.place })) (trace_fault file)
+trace_refusal file =
+    option_map (λ found. Trace (record { number = found.number; place = found.place })) (trace_fault file)
 
 -- a file is no certificate
 abbrev pub certificate_refusal : List ℕ → Option Refusal

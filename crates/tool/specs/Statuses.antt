@@ -1,7 +1,8 @@
 -- How the program ends.
 use Rattle.std.specs.Prelude.{ℕ, Result, Ok, Err}
 use Rattle.tool.specs.declared.status.Status.{Status}
-use Rattle.tool.specs.declared.status.Status.TheVariants.{Done, HartFailed, Refused, StepLimit, DeviceFault, NoMemory, Differs, Rejected}
+use Rattle.tool.specs.declared.status.Status.TheVariants.{Done, HartFailed, Refused, StepLimit, DeviceFault, NoMemory}
+use Rattle.tool.specs.declared.status.Status.TheVariants.{Differs, Rejected}
 use Rattle.tool.specs.declared.stop.Fault.{Fault}
 use Rattle.tool.specs.declared.stop.Fault.TheVariants as faults
 

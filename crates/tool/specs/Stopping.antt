@@ -31,7 +31,8 @@ use Rattle.tool.specs.declared.stop.Fault.TheVariants.{Device, NoMemory}
 use Rattle.tool.specs.declared.stop.Stop.{Stop}
 use Rattle.tool.specs.declared.stop.Stop.TheVariants.{Refused, Failed}
 use Rattle.tool.specs.Answer.{Answer, refused}
-use Rattle.tool.specs.Refusals.{certificate_refusal, events_at, hart_refusal, image_refusal, place_refusal, size_refusal, trace_refusal}
+use Rattle.tool.specs.Refusals.{certificate_refusal, events_at, hart_refusal, image_refusal, place_refusal}
+use Rattle.tool.specs.Refusals.{size_refusal, trace_refusal}
 
 -- how each error of a callee stops a command
 abbrev pub stop_of_words_fault : WordsFault → Stop
@@ -39,11 +40,13 @@ stop_of_words_fault words_faults.Usage = Refused refusals.Usage
 stop_of_words_fault words_faults.NoMemory = Failed NoMemory
 
 abbrev pub stop_of_image_fault : ImageFault → Stop
-stop_of_image_fault (image_faults.Bad number place) = Refused (refusals.Image (record { number = number; place = place }))
+stop_of_image_fault (image_faults.Bad number place) =
+    Refused (refusals.Image (record { number = number; place = place }))
 stop_of_image_fault image_faults.NoMemory = Failed NoMemory
 
 abbrev pub stop_of_trace_fault : TraceFault → Stop
-stop_of_trace_fault (trace_faults.Bad number place) = Refused (refusals.Trace (record { number = number; place = place }))
+stop_of_trace_fault (trace_faults.Bad number place) =
+    Refused (refusals.Trace (record { number = number; place = place }))
 stop_of_trace_fault trace_faults.NoMemory = Failed NoMemory
 
 abbrev pub stop_of_certificate_fault : CertFault → Stop
@@ -62,7 +65,8 @@ fault_of_shelf shelf_faults.TooBig = Device
 fault_of_shelf shelf_faults.NoMemory = NoMemory
 
 -- a trace, and what it spells
-pub record IsTraceOf (file : List ℕ) (config : Config) (made : List Event) (recorded : Option (List Outcome)) : Type 0 where
+pub record IsTraceOf (file : List ℕ) (config : Config) (made : List Event)
+    (recorded : Option (List Outcome)) : Type 0 where
   pub accepted : trace_fault file ≡ None
   pub is_trace : IsTrace config made recorded
   pub spelled : file ≡ spelling config made recorded
@@ -107,7 +111,8 @@ OnlyMemory stop = stop ≡ Failed NoMemory
 
 -- a refusal for the size of a file that the shelf may hold, or a fault
 abbrev pub StopsRead : Option Contents → List ℕ → ℕ → Stop → Type 0
-StopsRead told name limit (Refused refusal) = (file : List ℕ) × Holds told name file × (size_refusal limit file ≡ Some refusal)
+StopsRead told name limit (Refused refusal) =
+    (file : List ℕ) × Holds told name file × (size_refusal limit file ≡ Some refusal)
 StopsRead told name limit (Failed fault) = Unit {0}
 
 -- a refusal that is an answer, or a fault

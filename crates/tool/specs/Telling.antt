@@ -11,7 +11,7 @@ abbrev pub Only : Answer → Answer → Type 0
 Only wanted answer = answer ≡ wanted
 
 -- these files were written, and no call failed; or they were left unwritten by a fault
-abbrev pub Writes : {T : Type 0} → Result T Fault → List WrittenFile → List NamedCall → List NamedCall → Option Contents →
-    Option Contents → Type 0
+abbrev pub Writes : {T : Type 0} → Result T Fault → List WrittenFile → List NamedCall → List NamedCall →
+    Option Contents → Option Contents → Type 0
 Writes result files had has before now =
     MatchResult result (λ _. Wrote before now files × (has ≡ had)) (Unwritten files had has before now)

@@ -1,5 +1,6 @@
 -- Entries and the bytes that spell them.
-use Rattle.std.proofs.Common.{◌≡◌, ℕ, zero, suc, ◌+◌, ◌*◌, ◌/◌, ◌%◌, ◌≤◌, ◌<◌, Bool, true, ltb, List, [], ◌∷◌, ◌++◌, length, get_or, drop, None, refl}
+use Rattle.std.proofs.Common.{◌≡◌, ℕ, zero, suc, ◌+◌, ◌*◌, ◌/◌, ◌%◌, ◌≤◌, ◌<◌, Bool, true, ltb, List, [], ◌∷◌, ◌++◌}
+use Rattle.std.proofs.Common.{length, get_or, drop, None, refl}
 use Rattle.std.proofs.Common.{sym, ap, ◌∙◌, arith, ◌^◌}
 use Rattle.std.specs.Prelude.{All}
 use Rattle.std.proofs.lemmas.Bool.{ltb-false}
@@ -19,7 +20,8 @@ use Rattle.el_base.specs.declared.events.Kind.TheVariants.{Step, Order, Serve, D
 use Rattle.el_base.specs.declared.hart_id.HartId.{HartId}
 use Rattle.el_base.specs.declared.outcomes.Need.TheVariants.{Read, Write}
 use Rattle.el_base.specs.declared.outcomes.Outcome.{Outcome}
-use Rattle.el_base.specs.declared.outcomes.Outcome.TheVariants.{Idle, Stalled, Missed, Ran, Began, Buffered, Committed, RolledBack, Ordered, Served}
+use Rattle.el_base.specs.declared.outcomes.Outcome.TheVariants.{Idle, Stalled, Missed, Ran, Began, Buffered, Committed}
+use Rattle.el_base.specs.declared.outcomes.Outcome.TheVariants.{RolledBack, Ordered, Served}
 use Rattle.el_base.specs.declared.outcomes.Outcome.TheVariants.{Blocked, Delivered, Armed, LetGo}
 use Rattle.el_base.specs.declared.outcomes.Cause.{Cause}
 use Rattle.el_base.specs.declared.outcomes.Cause.TheVariants.{Room, Lines, Long, Call, Mixed}
@@ -30,9 +32,11 @@ use Rattle.file_numbers.proofs.Laws.Numbers.{bytes_behind}
 use Rattle.trace_file.specs.FaultKinds.{fault_of}
 use Rattle.trace_file.specs.declared.fault.FaultKind.TheVariants.{Tail}
 use Rattle.trace_file.specs.Faults.{entries_fault, entry_fault, field_fault, fields_fault}
-use Rattle.trace_file.specs.Fields.{Field, byte_field, entry_width, event_field, fields_of, freed_field, is_blocking, is_cause, is_code, is_event}
+use Rattle.trace_file.specs.Fields.{Field, byte_field, entry_width, event_field, fields_of, freed_field, is_blocking}
+use Rattle.trace_file.specs.Fields.{is_cause, is_code, is_event}
 use Rattle.trace_file.specs.Fields.{is_line, losers_field, number_field, widths}
-use Rattle.trace_file.specs.Outcomes.{IsRecordable, blocking_byte, cause_code, freed_bytes, losers_bytes, most_committed, most_let_go}
+use Rattle.trace_file.specs.Outcomes.{IsRecordable, blocking_byte, cause_code, freed_bytes, losers_bytes}
+use Rattle.trace_file.specs.Outcomes.{most_committed, most_let_go}
 use Rattle.trace_file.specs.Outcomes.{outcome_spelling, why_code}
 use Rattle.trace_file.specs.Reading.{entries_in, entry_in, event_in, kind_at, outcome_in}
 use Rattle.trace_file.specs.Spelling.{entry_bytes, event_byte, outcomes, recorded_bytes}
@@ -93,12 +97,13 @@ code_known code known = grind (arith, nat_tests)
 
 -- an entry without a fault spells the bytes in front
 pub record IsRead (harts : ℕ) (bytes : List ℕ) : Type 0 where
-  pub spelled : entry_bytes (entry_in bytes).event (entry_in bytes).outcome ++ drop (entry_width harts bytes) bytes ≡ bytes
+  pub spelled : entry_bytes (entry_in bytes).event (entry_in bytes).outcome
+      ++ drop (entry_width harts bytes) bytes ≡ bytes
   pub hart : (entry_in bytes).event.hart.number < harts
   pub outcome : IsRecordable harts (entry_in bytes).outcome
 
-pub entry_spelled : (harts place : ℕ) (bytes : List ℕ) → harts ≤ 8 → IsBytes bytes → entry_fault harts place bytes ≡ None →
-    IsRead harts bytes
+pub entry_spelled : (harts place : ℕ) (bytes : List ℕ) → harts ≤ 8 → IsBytes bytes →
+    entry_fault harts place bytes ≡ None → IsRead harts bytes
 unfolding entry_fault entry_width entry_in
 entry_spelled harts place bytes few fits none =
     let code = get_or bytes 1 0 in
@@ -120,7 +125,10 @@ entry_spelled harts place bytes few fits none =
     in
     let two : 2 ≤ length bytes = omega (arith, e0.0, e1.0, length-drop 1 bytes) in
     record {
-      spelled = ap (λ (x : ℕ). x ∷ (outcome_spelling (outcome_in code (drop 2 bytes)) ++ drop (1 + (1 + widths fields)) bytes)) event.0
+      spelled =
+          ap
+          (λ (x : ℕ). x
+          ∷ (outcome_spelling (outcome_in code (drop 2 bytes)) ++ drop (1 + (1 + widths fields)) bytes)) event.0
           ∙ ap (λ (l : List ℕ). get_or bytes 0 0 ∷ (outcome_spelling (outcome_in code (drop 2 bytes)) ++ l)) (sym cut)
           ∙ ap (λ (l : List ℕ). get_or bytes 0 0 ∷ l) outcome.0
           ∙ ap (λ (l : List ℕ). get_or bytes 0 0 ∷ l) (sym (drop-cons bytes 1 0 (omega (arith, two))))
@@ -152,8 +160,10 @@ bare_width harts bytes none = rw none refl
 -- fields of an outcome that are filled, behind an event and a code
 opened : (harts place code : ℕ) (event : Event) (fields : List Field) (parts : List (List ℕ)) (rest : List ℕ) →
     event.hart.number < harts → is_code code ≡ true → Fill fields parts rest →
-    (fields_fault place (event_byte event ∷ code ∷ joined parts rest) (event_field harts ∷ byte_field is_code ∷ fields) ≡ None)
-    × (drop (widths (event_field harts ∷ byte_field is_code ∷ fields)) (event_byte event ∷ code ∷ joined parts rest) ≡ rest)
+    (fields_fault place (event_byte event ∷ code ∷ joined parts rest)
+    (event_field harts ∷ byte_field is_code ∷ fields) ≡ None)
+    × (drop (widths (event_field harts ∷ byte_field is_code ∷ fields))
+    (event_byte event ∷ code ∷ joined parts rest) ≡ rest)
 opened harts place code event fields parts rest below known fill =
     filled place (event_field harts ∷ byte_field is_code ∷ fields) ((event_byte event ∷ []) ∷ (code ∷ []) ∷ parts) rest
     (refl, event_passes harts event below, (refl, known, fill))
@@ -207,13 +217,21 @@ entry_again harts place event (RolledBack cause) rest few below known =
     opened harts place 8 event (byte_field is_cause ∷ []) ((cause_code cause ∷ []) ∷ []) rest below refl
     (refl, cause_passes cause, tt)
 entry_again harts place event (Ordered losers freed) rest few below known =
-    opened harts place 9 event (losers_field harts ∷ freed_field harts ∷ []) (losers_bytes losers ∷ freed_bytes freed ∷ []) rest
-    below refl
-    (refl, losers_pass harts losers (freed_bytes freed ++ rest) few known.0, (refl, freed_pass harts freed rest known.1, tt))
+    opened harts place 9 event (losers_field harts ∷ freed_field harts ∷ [])
+    (losers_bytes losers ∷ freed_bytes freed ∷ []) rest
+    below refl (
+      refl,
+      losers_pass harts losers (freed_bytes freed ++ rest) few known.0,
+      (refl, freed_pass harts freed rest known.1, tt),
+    )
 entry_again harts place event (Served losers freed) rest few below known =
-    opened harts place 10 event (losers_field harts ∷ freed_field harts ∷ []) (losers_bytes losers ∷ freed_bytes freed ∷ []) rest
-    below refl
-    (refl, losers_pass harts losers (freed_bytes freed ++ rest) few known.0, (refl, freed_pass harts freed rest known.1, tt))
+    opened harts place 10 event (losers_field harts ∷ freed_field harts ∷ [])
+    (losers_bytes losers ∷ freed_bytes freed ∷ []) rest
+    below refl (
+      refl,
+      losers_pass harts losers (freed_bytes freed ++ rest) few known.0,
+      (refl, freed_pass harts freed rest known.1, tt),
+    )
 entry_again harts place event (Blocked why by) rest few below known =
     opened harts place 11 event (byte_field (is_blocking harts) ∷ []) ((blocking_byte why by ∷ []) ∷ []) rest below refl
     (refl, blocking_passes (why_code why) by.number harts (why_small why) by.small known, tt)
@@ -251,7 +269,8 @@ pub record AreRead (harts count : ℕ) (bytes : List ℕ) (entries : List Entry)
 pub entries_spelled : (harts count place : ℕ) (bytes : List ℕ) → harts ≤ 8 → IsBytes bytes →
     entries_fault harts count place bytes ≡ None → AreRead harts count bytes (entries_in harts count bytes)
 entries_spelled harts zero place bytes few fits none =
-    let past : length bytes ≤ 0 = ltb-false 0 (length bytes) (cond_none (ltb 0 (length bytes)) (fault_of Tail place) None none).0 in
+    let past : length bytes ≤ 0 =
+    ltb-false 0 (length bytes) (cond_none (ltb 0 (length bytes)) (fault_of Tail place) None none).0 in
     record {
       spelled = sym (nil_from_length bytes (omega (arith, past)));
       many = refl;
@@ -262,15 +281,18 @@ entries_spelled harts zero place bytes few fits none =
 entries_spelled harts (suc count) place bytes few fits none =
     let width = entry_width harts bytes in
     let entry = entry_in bytes in
-    let e = or_none (entry_fault harts place bytes) (entries_fault harts count (place + width) (drop width bytes)) none in
+    let e =
+    or_none (entry_fault harts place bytes) (entries_fault harts count (place + width) (drop width bytes)) none in
     let first = entry_spelled harts place bytes few fits e.0 in
-    let later = entries_spelled harts count (place + width) (drop width bytes) few (bytes_behind width bytes fits) e.1 in
+    let later =
+    entries_spelled harts count (place + width) (drop width bytes) few (bytes_behind width bytes fits) e.1 in
     let entries = entries_in harts count (drop width bytes) in
     record {
       spelled = ap (λ (l : List ℕ). entry_bytes entry.event entry.outcome ++ l) later.spelled ∙ first.spelled;
       many = ap suc later.many;
       as_many = ap suc later.as_many;
-      below = All-cons (λ (event : Event). event.hart.number < harts) entry.event (events entries) first.hart later.below;
+      below =
+          All-cons (λ (event : Event). event.hart.number < harts) entry.event (events entries) first.hart later.below;
       recordable = All-cons (IsRecordable harts) entry.outcome (outcomes entries) first.outcome later.recordable;
     }
 
@@ -282,7 +304,8 @@ pub record AreAgain (harts place : ℕ) (es : List Event) (os : List Outcome) : 
 
 pub entries_again : (harts place : ℕ) (es : List Event) (os : List Outcome) → harts ≤ 8 → length os ≡ length es →
     All (λ (event : Event). event.hart.number < harts) es → All (IsRecordable harts) os → AreAgain harts place es os
-entries_again harts place [] [] few many below known = record { faultless = refl; again_events = refl; again_outcomes = refl }
+entries_again harts place [] [] few many below known =
+    record { faultless = refl; again_events = refl; again_outcomes = refl }
 entries_again harts place [] (o ∷ os) few many below known = absurd (omega (arith, many))
 entries_again harts place (e ∷ es) [] few many below known = absurd (omega (arith, many))
 entries_again harts place (e ∷ es) (o ∷ os) few many below known =
@@ -297,7 +320,8 @@ entries_again harts place (e ∷ es) (o ∷ os) few many below known =
     (All-tail (λ (event : Event). event.hart.number < harts) e es below) (All-tail (IsRecordable harts) o os known)
     in
     record {
-      faultless = both_none (entry_fault harts place bytes) (entries_fault harts (length es) (place + width) (drop width bytes))
+      faultless =
+          both_none (entry_fault harts place bytes) (entries_fault harts (length es) (place + width) (drop width bytes))
           first.0
           (ap (λ (l : List ℕ). entries_fault harts (length es) (place + width) l) first.1 ∙ later.faultless);
       again_events = ap (λ (x : Entry). x.event ∷ events (entries_in harts (length es) (drop width bytes))) back

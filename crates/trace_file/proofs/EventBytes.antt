@@ -1,5 +1,6 @@
 -- Events as bytes.
-use Rattle.std.proofs.Common.{◌≡◌, ℕ, zero, suc, ◌-◌, ◌≤◌, Bool, not, List, length, take, drop, get_or, ap, sym, ◌∙◌, None, IsTrue, refl, arith}
+use Rattle.std.proofs.Common.{◌≡◌, ℕ, zero, suc, ◌-◌, ◌≤◌, Bool, not, List, length, take, drop, get_or, ap, sym, ◌∙◌}
+use Rattle.std.proofs.Common.{None, IsTrue, refl, arith}
 use Rattle.std.specs.Prelude.{All, nat_lt}
 use Rattle.std.specs.List.{position, position_or_len}
 use Rattle.std.proofs.lemmas.List.Sums.{fails_before_first}
@@ -13,7 +14,8 @@ use Rattle.el_base.proofs.Laws.Options.{cond_none}
 use Rattle.trace_file.specs.Reading.{kind_at}
 
 -- where no element fails a test, each passes it
-pub none_fails : (test : ℕ → Bool) (xs : List ℕ) → position (λ x. not (test x)) xs ≡ None → All (λ x. IsTrue (test x)) xs
+pub none_fails : (test : ℕ → Bool) (xs : List ℕ) → position (λ x. not (test x)) xs ≡ None →
+    All (λ x. IsTrue (test x)) xs
 none_fails test xs none k d within =
     let apart = cond_none (nat_lt (position_or_len (λ x. not (test x)) xs) (length xs)) _ _ none in
     let past : length xs ≤ position_or_len (λ x. not (test x)) xs = ltb-false _ _ apart.0 in

@@ -1,5 +1,6 @@
 -- Fields that stand one behind the other.
-use Rattle.std.proofs.Common.{◌≡◌, ℕ, ◌+◌, ◌≤◌, Bool, true, false, not, ltb, List, [], ◌∷◌, ◌++◌, length, drop, None, refl, sym, ap, ◌∙◌, arith}
+use Rattle.std.proofs.Common.{◌≡◌, ℕ, ◌+◌, ◌≤◌, Bool, true, false, not, ltb, List, [], ◌∷◌, ◌++◌, length, drop, None}
+use Rattle.std.proofs.Common.{refl, sym, ap, ◌∙◌, arith}
 use Rattle.std.proofs.lemmas.Bool.{le-ltb, ltb-false, not-false}
 use Rattle.std.proofs.lemmas.List.{drop_at, drop-drop, length-append, length-drop}
 use Rattle.el_base.specs.Firsts.{some_if}
@@ -26,7 +27,9 @@ pub first_known : (place : ℕ) (bytes : List ℕ) (first : Field) (fields : Lis
     (first.width ≤ length bytes) × (first.passes bytes ≡ true)
     × (fields_fault (place + first.width) (drop first.width bytes) fields ≡ None)
 first_known place bytes first fields none =
-    let e = or_none (field_fault place bytes first) (fields_fault (place + first.width) (drop first.width bytes) fields) none in
+    let e =
+    or_none (field_fault place bytes first) (fields_fault (place + first.width) (drop first.width bytes) fields)
+    none in
     let known = field_known place bytes first e.0 in
     (known.0, known.1, e.1)
 
@@ -56,7 +59,8 @@ Fill (first ∷ fields) (part ∷ parts) rest =
 pub field_passes : (place : ℕ) (bytes : List ℕ) (one : Field) → one.width ≤ length bytes → one.passes bytes ≡ true →
     field_fault place bytes one ≡ None
 unfolding field_fault
-field_passes place bytes one whole passes = rw (le-ltb (length bytes) one.width whole) (passing (one.passes bytes) passes)
+field_passes place bytes one whole passes =
+    rw (le-ltb (length bytes) one.width whole) (passing (one.passes bytes) passes)
   where
     passing : (holds : Bool) → holds ≡ true → some_if (not holds) (fault_of one.kind place) ≡ None
     passing true is = refl

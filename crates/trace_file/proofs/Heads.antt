@@ -1,5 +1,6 @@
 -- A head without a fault is spelled by what stands in it.
-use Rattle.std.proofs.Common.{◌≡◌, ℕ, ◌+◌, ◌≤◌, ◌<◌, Bool, true, not, ◌==◌, ltb, List, [], ◌∷◌, ◌++◌, length, get_or, drop, zero, suc, Option, None}
+use Rattle.std.proofs.Common.{◌≡◌, ℕ, ◌+◌, ◌≤◌, ◌<◌, Bool, true, not, ◌==◌, ltb, List, [], ◌∷◌, ◌++◌, length, get_or}
+use Rattle.std.proofs.Common.{drop, zero, suc, Option, None}
 use Rattle.std.proofs.Common.{refl, sym, ap, ◌∙◌, arith}
 use Rattle.std.proofs.Math.Seq.{drop-cons}
 use Rattle.std.proofs.lemmas.Bool.{ltb-false, not-false}
@@ -19,7 +20,8 @@ use Rattle.el_base.proofs.Laws.Tests.{same_unless_other}
 use Rattle.el_base.proofs.Laws.Options.{cond_none, or_none}
 use Rattle.trace_file.specs.Spelling.{head}
 use Rattle.trace_file.specs.FaultKinds.{fault_of}
-use Rattle.trace_file.specs.Faults.{field, wrong, byte_fault, magic_fault, settings_fault, number_fault, is_mode, mode_at, config_at}
+use Rattle.trace_file.specs.Faults.{field, wrong, byte_fault, magic_fault, settings_fault, number_fault, is_mode}
+use Rattle.trace_file.specs.Faults.{mode_at, config_at}
 
 -- ---- numbers
 
@@ -44,7 +46,8 @@ field_none file end fault none =
 wrong_none : (file : List ℕ) (place wanted : ℕ) (kind : FaultKind) → wrong file place wanted kind ≡ None →
     get_or file place 0 ≡ wanted
 wrong_none file place wanted kind none =
-    same_unless_other (get_or file place 0) wanted (cond_none (not (get_or file place 0 == wanted)) (fault_of kind place) None none).0
+    same_unless_other (get_or file place 0) wanted
+    (cond_none (not (get_or file place 0 == wanted)) (fault_of kind place) None none).0
 
 magic_none : (file : List ℕ) → magic_fault file ≡ None →
     (get_or file 0 0 ≡ 0x45) × (get_or file 1 0 ≡ 0x4c) × (get_or file 2 0 ≡ 0x54) × (get_or file 3 0 ≡ 0x52)
@@ -71,7 +74,8 @@ mode_again (suc (suc zero)) small = refl
 mode_again (suc (suc (suc n))) small = absurd (omega arith)
 
 -- a field without a fault passes its test
-pub byte_passed : (file : List ℕ) (place : ℕ) (test : ℕ → Bool) → byte_fault file place test ≡ None → test (get_or file place 0) ≡ true
+pub byte_passed : (file : List ℕ) (place : ℕ) (test : ℕ → Bool) → byte_fault file place test ≡ None →
+    test (get_or file place 0) ≡ true
 unfolding byte_fault
 byte_passed file place test none =
     let passed = test (get_or file place 0) in
@@ -94,7 +98,9 @@ mode_none : (file : List ℕ) → settings_fault file ≡ None →
 unfolding settings_fault
 mode_none file none =
     let numbers = number_fault file 10 (allows Long) ∷ number_fault file 14 (allows Steps) ∷ [] in
-    let behind = byte_fault file 7 (allows Sets) ∷ byte_fault file 8 (allows Ways) ∷ byte_fault file 9 (allows Lines) ∷ numbers in
+    let behind =
+    byte_fault file 7 (allows Sets) ∷ byte_fault file 8 (allows Ways) ∷ byte_fault file 9
+    (allows Lines) ∷ numbers in
     let e = or_none (byte_fault file 5 (allows Harts)) (first_of (byte_fault file 6 is_mode ∷ behind)) none in
     let mode = or_none (byte_fault file 6 is_mode) (first_of behind) e.1 in
     mode_again (get_or file 6 0) (at_most_two (get_or file 6 0) (byte_passed file 6 is_mode mode.0))
@@ -135,8 +141,8 @@ settings_spelled file fits long mode =
     (drop-cons file 9 0 (omega arith)
     ∙ ap (λ (t : List ℕ). get_or file 9 0 ∷ t) (sym (numbers file fits long))))))
 
-pub head_spelled : (file : List ℕ) → IsBytes file → 22 ≤ length file → magic_fault file ≡ None → settings_fault file ≡ None →
-    file ≡ head (get_or file 4 0) (config_at file) (number_at file 18) ++ drop 22 file
+pub head_spelled : (file : List ℕ) → IsBytes file → 22 ≤ length file → magic_fault file ≡ None →
+    settings_fault file ≡ None → file ≡ head (get_or file 4 0) (config_at file) (number_at file 18) ++ drop 22 file
 unfolding config_at
 head_spelled file fits long magic settings =
     let letters = magic_none file magic in

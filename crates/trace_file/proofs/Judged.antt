@@ -1,5 +1,6 @@
 -- A file without a fault is the spelling of what is read of it.
-use Rattle.std.proofs.Common.{◌≡◌, ◌≢◌, ℕ, ◌+◌, ◌≤◌, ◌<◌, Bool, true, false, not, ◌==◌, ltb, List, [], ◌∷◌, ◌++◌, length, map, get_or, take, drop}
+use Rattle.std.proofs.Common.{◌≡◌, ◌≢◌, ℕ, ◌+◌, ◌≤◌, ◌<◌, Bool, true, false, not, ◌==◌, ltb, List, [], ◌∷◌, ◌++◌}
+use Rattle.std.proofs.Common.{length, map, get_or, take, drop}
 use Rattle.std.proofs.Common.{Option, Some, None, IsTrue, refl, sym, ap, ◌∙◌, arith}
 use Rattle.std.specs.Prelude.{All}
 use Rattle.std.specs.Option.{option_map}
@@ -23,8 +24,10 @@ use Rattle.trace_file.specs.declared.fault.FaultKind.TheVariants.{Event as event
 use Rattle.trace_file.specs.Spelling.{head, spelling, event_byte, outcomes, IsTrace}
 use Rattle.trace_file.specs.FaultKinds.{fault_of}
 use Rattle.trace_file.specs.Fields.{is_event}
-use Rattle.trace_file.specs.Faults.{byte_fault, magic_fault, version_fault, settings_fault, number_fault, head_fault, config_at, is_mode, is_few}
-use Rattle.trace_file.specs.Faults.{is_version, event_fault, end_fault, events_fault, entries_fault, body_fault, trace_fault}
+use Rattle.trace_file.specs.Faults.{byte_fault, magic_fault, version_fault, settings_fault, number_fault, head_fault}
+use Rattle.trace_file.specs.Faults.{config_at, is_mode, is_few}
+use Rattle.trace_file.specs.Faults.{is_version, event_fault, end_fault, events_fault, entries_fault, body_fault}
+use Rattle.trace_file.specs.Faults.{trace_fault}
 use Rattle.trace_file.specs.Reading.{entries_at, event_in, events_at, recorded_at}
 use Rattle.trace_file.proofs.EventBytes.{none_fails, all_taken}
 use Rattle.trace_file.proofs.EntryLaws.{entries_spelled, event_spelled}
@@ -100,7 +103,8 @@ head_known file fits none =
 -- ---- events without outcomes
 
 events_spelled : (harts : ℕ) → harts ≤ 8 → (bytes : List ℕ) → All (λ byte. IsTrue (is_event harts byte)) bytes →
-    (map event_byte (map event_in bytes) ≡ bytes) × All (λ (event : Event). event.hart.number < harts) (map event_in bytes)
+    (map event_byte (map event_in bytes) ≡ bytes) × All (λ (event : Event). event.hart.number < harts)
+    (map event_in bytes)
 events_spelled harts few [] known = (refl, λ k d within. absurd (omega arith))
 events_spelled harts few (byte ∷ bytes) known =
     let first = event_spelled harts byte few (All-head (λ b. IsTrue (is_event harts b)) byte bytes known) in
@@ -145,8 +149,8 @@ unfolding config_at
 harts_of file = refl
 
 -- without outcomes
-bare_whole : (file : List ℕ) → Known file → get_or file 4 0 ≡ 1 → events_fault (get_or file 5 0) (number_at file 18) file ≡ None →
-    Whole file (map event_in (drop 22 file)) None
+bare_whole : (file : List ℕ) → Known file → get_or file 4 0 ≡ 1 →
+    events_fault (get_or file 5 0) (number_at file 18) file ≡ None → Whole file (map event_in (drop 22 file)) None
 unfolding config_at
 bare_whole file known version none =
     let count = number_at file 18 in
@@ -154,7 +158,12 @@ bare_whole file known version none =
     let es = map event_in (drop 22 file) in
     let spelled = events_spelled (get_or file 5 0) known.harts (drop 22 file) bare.1 in
     let many : length es ≡ count = length-map (drop 22 file) event_in ∙ bare.0 in (
-      record { in_range = in_range (config_at file) known.ranges; few = rw many known.few; harts = spelled.1; told = tt },
+      record {
+        in_range = in_range (config_at file) known.ranges;
+        few = rw many known.few;
+        harts = spelled.1;
+        told = tt;
+      },
       known.spelled
           ∙ ap (λ (v : ℕ). head v (config_at file) count ++ drop 22 file) version
           ∙ ap (λ (n : ℕ). head 1 (config_at file) n ++ drop 22 file) (sym many)
@@ -195,7 +204,8 @@ by_version false file fits known bare none =
     let none' : entries_fault (get_or file 5 0) (number_at file 18) 22 (drop 22 file) ≡ None = rw bare at none in
     rw bare (recorded_whole file fits known (one_or_two (get_or file 4 0) known.version other) none')
 
-pub faultless : (file : List ℕ) → IsBytes file → trace_fault file ≡ None → Whole file (events_at file) (recorded_at file)
+pub faultless : (file : List ℕ) → IsBytes file → trace_fault file ≡ None →
+    Whole file (events_at file) (recorded_at file)
 unfolding trace_fault
 faultless file fits none =
     let e0 = or_none (head_fault file) (first_of (body_fault file ∷ [])) none in
@@ -203,7 +213,8 @@ faultless file fits none =
     by_version (get_or file 4 0 == 1) file fits (head_known file fits e0.0) refl e1.0
 
 -- the same of what was read as a file says it
-pub is_whole : (file : List ℕ) (c : Config) (es : List Event) (os : Option (List Outcome)) → IsBytes file → trace_fault file ≡ None →
-    c ≡ config_at file → es ≡ events_at file → os ≡ recorded_at file → IsTrace c es os × (file ≡ spelling c es os)
+pub is_whole : (file : List ℕ) (c : Config) (es : List Event) (os : Option (List Outcome)) → IsBytes file →
+    trace_fault file ≡ None → c ≡ config_at file → es ≡ events_at file → os ≡ recorded_at file →
+    IsTrace c es os × (file ≡ spelling c es os)
 is_whole file c es os fits none config events recorded =
     rw (config, events, recorded) (faultless file fits none)

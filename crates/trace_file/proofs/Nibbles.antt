@@ -1,5 +1,6 @@
 -- Four bits a hart: what bytes say of losers and freed harts, and the bytes that say it.
-use Rattle.std.proofs.Common.{◌≡◌, ℕ, zero, suc, ◌/◌, ◌%◌, ◌≤◌, ◌<◌, ◌==◌, ◌&&◌, Bool, true, false, List, [], ◌∷◌, ◌++◌, get_or, Option, Some, None}
+use Rattle.std.proofs.Common.{◌≡◌, ℕ, zero, suc, ◌/◌, ◌%◌, ◌≤◌, ◌<◌, ◌==◌, ◌&&◌, Bool, true, false, List, [], ◌∷◌, ◌++◌}
+use Rattle.std.proofs.Common.{get_or, Option, Some, None}
 use Rattle.std.proofs.Common.{refl, sym, ap, ◌∙◌, min, arith}
 use Rattle.std.specs.Prelude.{IfSome, IsTrue, if◌then◌else◌, nat_lt, nat_le}
 use Rattle.std.proofs.lemmas.Bool.{ltb-true, ltb-false, lt-ltb, and_parts, and_right, and_left, and_from}
@@ -10,7 +11,8 @@ use Rattle.el_base.specs.Losers.{beaten_by, decoded_winner, losers_of, winner_co
 use Rattle.el_base.specs.NibblePairs.{nibble_in, nibble_in-pairs_of, pair_of, pairs_of}
 use Rattle.el_base.specs.declared.freed.Freed.{Freed}
 use Rattle.el_base.specs.declared.losers.Losers.{Losers}
-use Rattle.el_base.proofs.Laws.MadeLosers.{beaten_by-beyond, beaten_by-losers_of, count_in-beyond, count_in-freed_of, named_by_map, winner_below}
+use Rattle.el_base.proofs.Laws.MadeLosers.{beaten_by-beyond, beaten_by-losers_of, count_in-beyond, count_in-freed_of}
+use Rattle.el_base.proofs.Laws.MadeLosers.{named_by_map, winner_below}
 use Rattle.el_base.proofs.Laws.MadeLosers.{decoded-winner_code}
 use Rattle.el_base.proofs.Laws.SameLosers.{same_freed, same_losers}
 use Rattle.trace_file.specs.Fields.{all_below, are_nibbles, is_nibble, most_for}
@@ -50,7 +52,8 @@ last_or_lower_fails n test h false other low fails lower =
 
 pub one_fails : (n : ℕ) (test : ℕ → Bool) (h : ℕ) → h < n → test h ≡ false → all_below n test ≡ false
 one_fails zero test h low fails = absurd (omega arith)
-one_fails (suc n) test h low fails = last_or_lower_fails n test h (n == h) refl low fails (λ lower. one_fails n test h lower fails)
+one_fails (suc n) test h low fails =
+    last_or_lower_fails n test h (n == h) refl low fails (λ lower. one_fails n test h lower fails)
 
 le_of : (a b : ℕ) → nat_le a b ≡ true → a ≤ b
 le_of a b passes = grind (arith, nat_tests)
@@ -69,7 +72,8 @@ chosen_most false most = omega arith
 pub most_small : (harts most h : ℕ) → most_for harts most h ≤ most
 most_small harts most h = chosen_most (nat_lt h harts) most
 
-some_inside : (inside : Bool) (harts most h : ℕ) → nat_lt h harts ≡ inside → 1 ≤ (if inside then most else 0) → h < harts
+some_inside : (inside : Bool) (harts most h : ℕ) → nat_lt h harts ≡ inside →
+    1 ≤ (if inside then most else 0) → h < harts
 some_inside true harts most h is some = ltb-true h harts is
 some_inside false harts most h is some = absurd (omega arith)
 
@@ -82,7 +86,8 @@ unfolding are_nibbles
 nibbles_known harts most bytes passes h low =
     le_of (nibble_in bytes h) (most_for harts most h) (each_below 8 (is_nibble harts most bytes) h passes low)
 
-pub counts_small : (harts : ℕ) (bytes : List ℕ) → IsTrue (are_nibbles harts 15 bytes) → (h : ℕ) → h < 8 → nibble_in bytes h ≤ 15
+pub counts_small : (harts : ℕ) (bytes : List ℕ) → IsTrue (are_nibbles harts 15 bytes) → (h : ℕ) → h < 8 →
+    nibble_in bytes h ≤ 15
 counts_small harts bytes passes h low =
     omega (arith, nibbles_known harts 15 bytes passes h low, most_small harts 15 h)
 
@@ -93,8 +98,8 @@ nibbles_pass harts most bytes small =
     sym (all_from_each 8 (is_nibble harts most bytes)
     (λ h low. le_to (nibble_in bytes h) (most_for harts most h) (small h low)))
 
-pub nibbles_small : (harts : ℕ) (bytes : List ℕ) → harts ≤ 8 → IsTrue (are_nibbles harts harts bytes) → (h : ℕ) → h < 8 →
-    nibble_in bytes h ≤ 8
+pub nibbles_small : (harts : ℕ) (bytes : List ℕ) → harts ≤ 8 → IsTrue (are_nibbles harts harts bytes) → (h : ℕ) →
+    h < 8 → nibble_in bytes h ≤ 8
 nibbles_small harts bytes few passes h low =
     omega (arith, nibbles_known harts harts bytes passes h low, most_small harts harts h)
 
@@ -132,18 +137,21 @@ pairs_again bytes fits =
     let e1 = halves_again (get_or bytes 1 0) (fits 1) in
     let e2 = halves_again (get_or bytes 2 0) (fits 2) in
     let e3 = halves_again (get_or bytes 3 0) (fits 3) in
-    ap (λ (x : ℕ). x ∷ pair_of (get_or bytes 1 0 % 16) (get_or bytes 1 0 / 16) ∷ pair_of (get_or bytes 2 0 % 16) (get_or bytes 2 0 / 16)
+    ap (λ (x : ℕ). x ∷ pair_of (get_or bytes 1 0 % 16) (get_or bytes 1 0 / 16) ∷ pair_of (get_or bytes 2 0 % 16)
+    (get_or bytes 2 0 / 16)
     ∷ pair_of (get_or bytes 3 0 % 16) (get_or bytes 3 0 / 16) ∷ []) e0
     ∙ ap (λ (x : ℕ). get_or bytes 0 0 ∷ x ∷ pair_of (get_or bytes 2 0 % 16) (get_or bytes 2 0 / 16)
     ∷ pair_of (get_or bytes 3 0 % 16) (get_or bytes 3 0 / 16) ∷ []) e1
-    ∙ ap (λ (x : ℕ). get_or bytes 0 0 ∷ get_or bytes 1 0 ∷ x ∷ pair_of (get_or bytes 3 0 % 16) (get_or bytes 3 0 / 16) ∷ []) e2
+    ∙ ap (λ (x : ℕ). get_or bytes 0 0 ∷ get_or bytes 1 0 ∷ x ∷ pair_of (get_or bytes 3 0 % 16)
+    (get_or bytes 3 0 / 16) ∷ []) e2
     ∙ ap (λ (x : ℕ). get_or bytes 0 0 ∷ get_or bytes 1 0 ∷ get_or bytes 2 0 ∷ x ∷ []) e3
 
 chosen_front : (even : Bool) (x y : ℕ) → x ≡ y → (if even then x % 16 else x / 16) ≡ (if even then y % 16 else y / 16)
 chosen_front even x y same = rw same refl
 
 -- the first eight stand in four bytes, whatever follows them
-pub nibble_in_front : (number : ℕ → ℕ) (rest : List ℕ) (h : ℕ) → h < 8 → nibble_in (pairs_of number ++ rest) h ≡ min (number h) 15
+pub nibble_in_front : (number : ℕ → ℕ) (rest : List ℕ) (h : ℕ) → h < 8 →
+    nibble_in (pairs_of number ++ rest) h ≡ min (number h) 15
 nibble_in_front number rest h low =
     chosen_front (h % 2 == 0) (get_or (pairs_of number ++ rest) (h / 2) 0) (get_or (pairs_of number) (h / 2) 0)
     (get_or_append_left (pairs_of number) rest 0 (h / 2) (omega arith))
@@ -171,7 +179,8 @@ losers_are losers bytes small alike = same_losers losers (losers_of (winners_in 
     by : (h : ℕ) (inside : Bool) → nat_lt h 8 ≡ inside → beaten_by losers h ≡ beaten_by (losers_of (winners_in bytes)) h
     by h true inside =
         let low = ltb-true h 8 inside in
-        alike h low ∙ sym (beaten_by-losers_of (winners_in bytes) h low (small_decoded (nibble_in bytes h) (small h low)))
+        alike h low
+        ∙ sym (beaten_by-losers_of (winners_in bytes) h low (small_decoded (nibble_in bytes h) (small h low)))
     by h false past =
         let beyond = ltb-false h 8 past in
         beaten_by-beyond losers h beyond ∙ sym (beaten_by-beyond (losers_of (winners_in bytes)) h beyond)
@@ -190,7 +199,8 @@ code_named : (n w : ℕ) → decoded_winner n ≡ Some w → n ≡ suc w
 code_named zero w is = absurd (cc)
 code_named (suc n) w is = let same : n ≡ w = cc in ap suc same
 
-pub losers_below : (harts : ℕ) (bytes : List ℕ) → are_nibbles harts harts bytes ≡ true → AreLosersBelow harts (losers_in bytes)
+pub losers_below : (harts : ℕ) (bytes : List ℕ) → are_nibbles harts harts bytes ≡ true →
+    AreLosersBelow harts (losers_in bytes)
 unfolding losers_in
 losers_below harts bytes passes h winner is = by (nat_lt h 8) refl
   where
@@ -198,8 +208,10 @@ losers_below harts bytes passes h winner is = by (nat_lt h 8) refl
     by true inside =
         let known = nibbles_known harts harts bytes passes h (ltb-true h 8 inside) in
         let named = code_named (nibble_in bytes h) winner (named_by_map (winners_in bytes) h winner is) in
-        let most = most_small harts harts h in
-        (some_inside (nat_lt h harts) harts harts h refl (omega (arith, known, named)), omega (arith, known, named, most))
+        let most = most_small harts harts h in (
+          some_inside (nat_lt h harts) harts harts h refl (omega (arith, known, named)),
+          omega (arith, known, named, most),
+        )
     by false past =
         let none = beaten_by-beyond (losers_of (winners_in bytes)) h (ltb-false h 8 past) in
         absurd (cc)
@@ -220,7 +232,9 @@ losers_again losers rest =
     code_small (Some w) low = grind (arith, nat_tests)
 
     small : (h : ℕ) → h < 8 → nibble_in (losers_bytes losers ++ rest) h ≤ 8
-    small h low = rw (nibble_in_front (codes_of losers) rest h low) (code_small (beaten_by losers h) (known (beaten_by losers h) h refl))
+    small h low =
+        rw (nibble_in_front (codes_of losers) rest h low)
+        (code_small (beaten_by losers h) (known (beaten_by losers h) h refl))
 
     alike : (h : ℕ) → h < 8 → beaten_by losers h ≡ winners_in (losers_bytes losers ++ rest) h
     alike h low =
@@ -233,7 +247,8 @@ losers_pass harts losers rest few below =
     sym (nibbles_pass harts harts (losers_bytes losers ++ rest)
     (λ h low. rw (nibble_in_front (codes_of losers) rest h low) (by h (beaten_by losers h) refl)))
   where
-    by : (h : ℕ) (winner : Option ℕ) → beaten_by losers h ≡ winner → min (winner_code winner) 15 ≤ most_for harts harts h
+    by : (h : ℕ) (winner : Option ℕ) → beaten_by losers h ≡ winner →
+        min (winner_code winner) 15 ≤ most_for harts harts h
     by h None is = omega arith
     by h (Some w) is =
         let named = below h w is in
@@ -263,7 +278,8 @@ freed_spelled bytes fits small =
     (λ h low. count_in-freed_of (nibble_in bytes) h low (small h low))
     ∙ pairs_again bytes fits
 
-pub freed_below : (harts : ℕ) (bytes : List ℕ) → are_nibbles harts 15 bytes ≡ true → AreFreedBelow harts (freed_in bytes)
+pub freed_below : (harts : ℕ) (bytes : List ℕ) → are_nibbles harts 15 bytes ≡ true →
+    AreFreedBelow harts (freed_in bytes)
 unfolding freed_in
 freed_below harts bytes passes h over = by (nat_lt h 8) refl (nat_lt h harts) refl
   where
@@ -271,7 +287,8 @@ freed_below harts bytes passes h over = by (nat_lt h 8) refl (nat_lt h harts) re
     none true is = let low = ltb-true h harts is in absurd (omega (arith, low, over))
     none false is = refl
 
-    by : (inside : Bool) → nat_lt h 8 ≡ inside → (hart : Bool) → nat_lt h harts ≡ hart → count_in (freed_of (nibble_in bytes)) h ≡ 0
+    by : (inside : Bool) → nat_lt h 8 ≡ inside → (hart : Bool) → nat_lt h harts ≡ hart →
+        count_in (freed_of (nibble_in bytes)) h ≡ 0
     by true inside hart is =
         let low = ltb-true h 8 inside in
         let known = nibbles_known harts 15 bytes passes h low in

@@ -1,5 +1,6 @@
 -- Walking over the entries of a file.
-use Rattle.std.proofs.Common.{◌≡◌, ℕ, suc, ◌+◌, ◌-◌, ◌≤◌, ◌<◌, ltb, List, [], ◌∷◌, ◌++◌, length, map, drop, Option, Some, None, refl, sym, ap, ◌∙◌}
+use Rattle.std.proofs.Common.{◌≡◌, ℕ, suc, ◌+◌, ◌-◌, ◌≤◌, ◌<◌, ltb, List, [], ◌∷◌, ◌++◌, length, map, drop, Option}
+use Rattle.std.proofs.Common.{Some, None, refl, sym, ap, ◌∙◌}
 use Rattle.std.proofs.Common.{append_assoc, arith}
 use Rattle.std.specs.Option.{option_or}
 use Rattle.std.proofs.lemmas.List.{append-nil}
@@ -55,9 +56,9 @@ read_more harts left less width bytes entry more is entry-is =
     ∙ ap (λ (e : Entry). e ∷ entries_in harts less (drop width bytes)) (sym entry-is)
 
 -- what was gathered, with the first of those to come
-pub gathered : {A : Type 0} (take_of : Entry → A) (before after : List A) (whole : List A) (entry : Entry) (entries rest : List Entry) →
-    before ++ map take_of entries ≡ whole → entries ≡ entry ∷ rest → after ≡ before ++ take_of entry ∷ [] →
-    after ++ map take_of rest ≡ whole
+pub gathered : {A : Type 0} (take_of : Entry → A) (before after : List A) (whole : List A) (entry : Entry)
+    (entries rest : List Entry) → before ++ map take_of entries ≡ whole → entries ≡ entry ∷ rest →
+    after ≡ before ++ take_of entry ∷ [] → after ++ map take_of rest ≡ whole
 gathered {A = A} take_of before after whole entry entries rest so-far is pushed =
     ap (λ (l : List A). l ++ map take_of rest) pushed
     ∙ append_assoc before (take_of entry ∷ []) (map take_of rest)
@@ -77,7 +78,8 @@ goes_on harts count k place width bytes whole inside so-far is none =
     sym (passed harts (count - k) (count - (k + 1)) place width bytes (less_one count k inside) is none) ∙ so-far
 
 pub stops : (harts count k place : ℕ) (bytes : List ℕ) (whole : Option FileFault) (fault : FileFault) → k < count →
-    entries_fault harts (count - k) place bytes ≡ whole → entry_fault harts place bytes ≡ Some fault → whole ≡ Some fault
+    entries_fault harts (count - k) place bytes ≡ whole → entry_fault harts place bytes ≡ Some fault →
+    whole ≡ Some fault
 stops harts count k place bytes whole fault inside so-far is =
     sym so-far ∙ fault_here harts (count - k) (count - (k + 1)) place bytes fault (less_one count k inside) is
 
@@ -87,13 +89,13 @@ ends harts count k place bytes whole past so-far =
     let none : count - k ≡ 0 = omega arith in
     ap (λ (n : ℕ). entries_fault harts n place bytes) (sym none) ∙ so-far
 
-pub starts : (harts count k place : ℕ) (bytes : List ℕ) → k < count → entries_fault harts (count - k) place bytes ≡ None →
-    entry_fault harts place bytes ≡ None
+pub starts : (harts count k place : ℕ) (bytes : List ℕ) → k < count →
+    entries_fault harts (count - k) place bytes ≡ None → entry_fault harts place bytes ≡ None
 starts harts count k place bytes inside none =
     first_passes harts (count - k) (count - (k + 1)) place bytes (less_one count k inside) none
 
-pub gathers : {A : Type 0} (take_of : Entry → A) (harts count k width : ℕ) (bytes : List ℕ) (entry : Entry) (before after whole : List A) →
-    k < count → width ≡ entry_width harts bytes → entry ≡ entry_in bytes →
+pub gathers : {A : Type 0} (take_of : Entry → A) (harts count k width : ℕ) (bytes : List ℕ) (entry : Entry)
+    (before after whole : List A) → k < count → width ≡ entry_width harts bytes → entry ≡ entry_in bytes →
     before ++ map take_of (entries_in harts (count - k) bytes) ≡ whole → after ≡ before ++ take_of entry ∷ [] →
     after ++ map take_of (entries_in harts (count - (k + 1)) (drop width bytes)) ≡ whole
 gathers take_of harts count k width bytes entry before after whole inside is entry-is so-far pushed =
@@ -101,8 +103,8 @@ gathers take_of harts count k width bytes entry before after whole inside is ent
     (entries_in harts (count - (k + 1)) (drop width bytes)) so-far
     (read_more harts (count - k) (count - (k + 1)) width bytes entry (less_one count k inside) is entry-is) pushed
 
-pub all_gathered : {A : Type 0} (take_of : Entry → A) (harts count k : ℕ) (bytes : List ℕ) (before whole : List A) → count ≤ k →
-    before ++ map take_of (entries_in harts (count - k) bytes) ≡ whole → before ≡ whole
+pub all_gathered : {A : Type 0} (take_of : Entry → A) (harts count k : ℕ) (bytes : List ℕ) (before whole : List A) →
+    count ≤ k → before ++ map take_of (entries_in harts (count - k) bytes) ≡ whole → before ≡ whole
 all_gathered {A = A} take_of harts count k bytes before whole past so-far =
     let none : count - k ≡ 0 = omega arith in
     sym (append-nil before)

@@ -16,7 +16,8 @@ use Rattle.el_base.specs.declared.outcomes.Need.TheVariants.{Read}
 use Rattle.el_base.specs.declared.outcomes.Outcome.{Outcome}
 use Rattle.el_base.specs.declared.outcomes.Outcome.TheVariants.{Idle, Ran, Missed, Ordered, Served}
 use Rattle.trace_file.specs.Spelling.{spelling}
-use Rattle.trace_file.specs.Faults.{field, byte_fault, magic_fault, version_fault, settings_fault, number_fault, head_fault, event_fault, end_fault}
+use Rattle.trace_file.specs.Faults.{field, byte_fault, magic_fault, version_fault, settings_fault, number_fault}
+use Rattle.trace_file.specs.Faults.{head_fault, event_fault, end_fault}
 use Rattle.trace_file.specs.Faults.{events_fault, field_fault, entry_fault, body_fault, trace_fault}
 use Rattle.trace_file.specs.Fields.{are_nibbles, entry_width}
 
@@ -42,7 +43,8 @@ file =
 spelled : spelling config (of_hart_0 Step ∷ of_hart_0 Order ∷ []) None ≡ file
 spelled = refl
 
-spelled_in_plain_mode : spelling (record config { mode = Plain }) (of_hart_0 Step ∷ of_hart_0 Order ∷ []) None ≡ set file 6 0
+spelled_in_plain_mode : spelling (record config { mode = Plain }) (of_hart_0 Step ∷ of_hart_0 Order ∷ [])
+    None ≡ set file 6 0
 spelled_in_plain_mode = refl
 
 faultless : trace_fault file ≡ None

@@ -1,6 +1,7 @@
 -- The faults of a trace: the file is read from left to right, each field is judged as soon as it is
 -- whole, and the first fault is the answer.
-use Rattle.std.specs.Prelude.{ℕ, zero, suc, ◌+◌, Bool, not, ◌==◌, nat_lt, nat_le, if◌then◌else◌, List, [], ◌∷◌, length, take, drop, slice_index}
+use Rattle.std.specs.Prelude.{ℕ, zero, suc, ◌+◌, Bool, not, ◌==◌, nat_lt, nat_le, if◌then◌else◌, List, [], ◌∷◌, length}
+use Rattle.std.specs.Prelude.{take, drop, slice_index}
 use Rattle.std.specs.Prelude.{Option, Some, None, position}
 use Rattle.std.specs.Option.{option_map, option_or}
 use Rattle.el_base.specs.Config.{allows, within}
@@ -30,7 +31,8 @@ byte_fault file place test =
     field file (place + 1) (some_if (not (test (slice_index file place))) (fault_of Config place))
 
 unfoldable pub number_fault : List ℕ → ℕ → (ℕ → Bool) → Option FileFault
-number_fault file place test = field file (place + 4) (some_if (not (test (number_at file place))) (fault_of Config place))
+number_fault file place test =
+    field file (place + 4) (some_if (not (test (number_at file place))) (fault_of Config place))
 
 unfoldable pub magic_fault : List ℕ → Option FileFault
 magic_fault file =
@@ -90,7 +92,8 @@ event_fault harts count file =
 
 -- the file ends before the last of this many events, or goes on behind it
 unfoldable pub end_fault : ℕ → List ℕ → Option FileFault
-end_fault count file = field file (22 + count) (some_if (nat_lt (22 + count) (length file)) (fault_of Tail (22 + count)))
+end_fault count file =
+    field file (22 + count) (some_if (nat_lt (22 + count) (length file)) (fault_of Tail (22 + count)))
 
 unfoldable pub events_fault : ℕ → ℕ → List ℕ → Option FileFault
 events_fault harts count file = first_of (event_fault harts count file ∷ end_fault count file ∷ [])

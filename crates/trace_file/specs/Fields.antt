@@ -1,5 +1,6 @@
 -- The fields of an entry of version 2: how many bytes each has, and which bytes pass.
-use Rattle.std.specs.Prelude.{ℕ, zero, suc, ◌+◌, ◌/◌, ◌%◌, Bool, true, ◌&&◌, ◌||◌, ◌==◌, nat_le, nat_lt, if◌then◌else◌, List, [], ◌∷◌, slice_index}
+use Rattle.std.specs.Prelude.{ℕ, zero, suc, ◌+◌, ◌/◌, ◌%◌, Bool, true, ◌&&◌, ◌||◌, ◌==◌, nat_le, nat_lt, if◌then◌else◌}
+use Rattle.std.specs.Prelude.{List, [], ◌∷◌, slice_index}
 use Rattle.byteorder.specs.Endian.{little_number}
 use Rattle.el_base.specs.Config.{within}
 use Rattle.el_base.specs.NibblePairs.{nibble_in}
@@ -8,7 +9,8 @@ use Rattle.trace_file.specs.Outcomes.{most_committed, most_let_go}
 use Rattle.trace_file.specs.declared.fault.FaultKind.{FaultKind}
 use Rattle.trace_file.specs.declared.fault.FaultKind.TheVariants as kinds
 
--- a field: its fault where it does not pass, its bytes, and whether the bytes from its place on begin with ones that pass
+-- a field: its fault where it does not pass, its bytes, and whether the bytes from its
+-- place on begin with ones that pass
 pub record Field : Type 0 where
   pub kind : FaultKind
   pub width : ℕ

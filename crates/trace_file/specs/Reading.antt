@@ -1,5 +1,6 @@
 -- What the bytes of a trace say.
-use Rattle.std.specs.Prelude.{ℕ, zero, suc, ◌/◌, ◌%◌, ◌==◌, if◌then◌else◌, List, [], ◌∷◌, drop, map, slice_index, Option, Some, None}
+use Rattle.std.specs.Prelude.{ℕ, zero, suc, ◌/◌, ◌%◌, ◌==◌, if◌then◌else◌, List, [], ◌∷◌, drop, map, slice_index}
+use Rattle.std.specs.Prelude.{Option, Some, None}
 use Rattle.byteorder.specs.Endian.{little_number}
 use Rattle.chronicle.specs.Chronicle.{events}
 use Rattle.el_base.specs.Freed.{freed_of}
@@ -17,7 +18,8 @@ use Rattle.el_base.specs.declared.outcomes.Cause.{Cause}
 use Rattle.el_base.specs.declared.outcomes.Cause.TheVariants.{Room, Lines, Long, Call, Mixed}
 use Rattle.el_base.specs.declared.outcomes.Need.TheVariants.{Read, Write}
 use Rattle.el_base.specs.declared.outcomes.Outcome.{Outcome}
-use Rattle.el_base.specs.declared.outcomes.Outcome.TheVariants.{Idle, Stalled, Missed, Ran, Began, Buffered, Committed, RolledBack, Ordered, Served}
+use Rattle.el_base.specs.declared.outcomes.Outcome.TheVariants.{Idle, Stalled, Missed, Ran, Began, Buffered, Committed}
+use Rattle.el_base.specs.declared.outcomes.Outcome.TheVariants.{RolledBack, Ordered, Served}
 use Rattle.el_base.specs.declared.outcomes.Outcome.TheVariants.{Blocked, Delivered, Armed, LetGo}
 use Rattle.el_base.specs.declared.outcomes.Why.{Why}
 use Rattle.el_base.specs.declared.outcomes.Why.TheVariants.{Behind, Retained, Locked}
@@ -32,7 +34,8 @@ kind_at number = if number == 0 then Step else if number == 1 then Order else if
 
 unfoldable pub cause_at : ℕ → Cause
 cause_at code =
-    if code == 0 then Room else if code == 1 then Lines else if code == 2 then Long else if code == 3 then Call else Mixed
+    if code == 0 then Room else if code == 1 then Lines else if code == 2 then Long else if code == 3
+    then Call else Mixed
 
 unfoldable pub why_at : ℕ → Why
 why_at code = if code == 0 then Behind else if code == 1 then Retained else Locked
@@ -70,7 +73,8 @@ outcome_in code bytes =
 
 -- the entry that these bytes begin with
 unfoldable pub entry_in : List ℕ → Entry
-entry_in bytes = record { event = event_in (slice_index bytes 0); outcome = outcome_in (slice_index bytes 1) (drop 2 bytes) }
+entry_in bytes =
+    record { event = event_in (slice_index bytes 0); outcome = outcome_in (slice_index bytes 1) (drop 2 bytes) }
 
 -- so many entries, one behind the other
 abbrev pub entries_in : ℕ → ℕ → List ℕ → List Entry

@@ -1,5 +1,6 @@
 -- How long the data of a workload is, and where its number stands.
-use Rattle.std.proofs.Common.{◌≡◌, ◌<◌, ◌≤◌, ℕ, zero, suc, ◌+◌, ◌*◌, ◌^◌, List, ◌++◌, length, refl, arith, add-one, append_assoc, length-append, sym}
+use Rattle.std.proofs.Common.{◌≡◌, ◌<◌, ◌≤◌, ℕ, zero, suc, ◌+◌, ◌*◌, ◌^◌, List, ◌++◌, length, refl, arith, add-one}
+use Rattle.std.proofs.Common.{append_assoc, length-append, sym}
 use Rattle.std.proofs.lemmas.List.{append-nil, length-replicate}
 use Rattle.std.specs.Prelude.{codes}
 use Rattle.byteorder.specs.Numbers.{little_number-reads_back}
@@ -69,5 +70,6 @@ unfolding first_line
 number_first number rest small =
     little_number-reads_back 4 number (zeros 12 ++ codes "0123456789abcdef" ++ zeros 32 ++ rest) small
 
-pub has_number : (kind : Work) (number : ℕ) (bytes : List ℕ) → bytes ≡ data_of kind number → number < 2 ^ 32 → word_at bytes 0 ≡ number
+pub has_number : (kind : Work) (number : ℕ) (bytes : List ℕ) → bytes ≡ data_of kind number → number < 2 ^ 32 →
+    word_at bytes 0 ≡ number
 has_number kind number bytes same small = rw same (number_first number (later_lines kind) small)

@@ -12,8 +12,9 @@ use Rattle.workload.specs.Listing.{listing}
 
 -- what is written of words and bytes is their image
 pub is_image : (built : Built) (words bytes file : List ℕ) → file ≡ image_file built →
-    ((harts : ℕ) → program_of file harts ≡ built_program built harts) → built.words.items ≡ words → built.bytes.items ≡ bytes →
-    length bytes + built.zeros ≡ DATA_LEN → built.base ≡ BASE → built.entry ≡ BASE + 12 → IsImageOf words bytes file
+    ((harts : ℕ) → program_of file harts ≡ built_program built harts) → built.words.items ≡ words →
+    built.bytes.items ≡ bytes → length bytes + built.zeros ≡ DATA_LEN → built.base ≡ BASE → built.entry ≡ BASE + 12 →
+    IsImageOf words bytes file
 is_image built words bytes file exact loads has_words has_bytes has_zeros at_base begins = record {
   built = built;
   has_words = has_words;

@@ -14,24 +14,29 @@ use Rattle.elf_image.proofs.Laws.WrittenBytes.{length-word_bytes}
 -- a number behind other bytes
 behind : (xs ys : List ℕ) (i n k : ℕ) → k ≡ length xs + i → little_from k n (xs ++ ys) ≡ little_from i n ys
 behind xs ys i zero k is = refl
-behind xs ys i (suc n) k is = rw (is, get_or-append-add, behind xs ys (suc i) n (suc (length xs + i)) (omega arith)) refl
+behind xs ys i (suc n) k is =
+    rw (is, get_or-append-add, behind xs ys (suc i) n (suc (length xs + i)) (omega arith)) refl
 
 -- where the words and the gap behind them fill a page, the data begins there
-number_at : (built : Built) (harts : ℕ) → built.base ≡ 0x10000 → 1 ≤ length built.words.items → length built.words.items ≤ 1000
+number_at : (built : Built) (harts : ℕ) → built.base ≡ 0x10000 → 1 ≤ length built.words.items →
+    length built.words.items ≤ 1000
     → 4 ≤ length built.bytes.items → word_at (built_memory built harts) 0x1000 ≡ word_at built.bytes.items 0
 unfolding built_memory
 number_at built harts base some few filled =
     let words = word_bytes built.words.items in
     let gap = replicate (data_start built - words_end built) 0 in
     let bytes = built.bytes.items in
-    let rest = replicate (built.zeros + (round_up line_size (data_end built) - data_end built) + stack_size * harts) 0 in
+    let rest =
+    replicate (built.zeros + (round_up line_size (data_end built) - data_end built) + stack_size * harts) 0 in
     let page : 0x1000 ≡ length (words ++ gap) + 0 =
     simp (length-append, length-replicate) (omega (arith, length-word_bytes built.words.items)) in
     ap (λ memory. word_at memory 0x1000) (append_assoc (words ++ gap) bytes rest)
     ∙ behind (words ++ gap) (bytes ++ rest) 0 4 0x1000 page
     ∙ little_from-append 4 bytes rest filled
 
-pub numbered : (built : Built) (harts number : ℕ) → built.base ≡ 0x10000 → 1 ≤ length built.words.items → length built.words.items ≤ 1000
-    → 4 ≤ length built.bytes.items → word_at built.bytes.items 0 ≡ number → word_at (built_program built harts).bytes 0x1000 ≡ number
+pub numbered : (built : Built) (harts number : ℕ) → built.base ≡ 0x10000 → 1 ≤ length built.words.items →
+    length built.words.items ≤ 1000
+    → 4 ≤ length built.bytes.items → word_at built.bytes.items 0 ≡ number →
+    word_at (built_program built harts).bytes 0x1000 ≡ number
 unfolding built_program
 numbered built harts number base some few filled is = number_at built harts base some few filled ∙ is

@@ -3,7 +3,8 @@ use Rattle.std.specs.Prelude.{ℤ, pos}
 use Rattle.rv_asm.specs.Assembly.{Assembly}
 use Rattle.rv_asm.specs.declared.item.Label.{Label}
 use Rattle.workload.specs.declared.layout.TheConstants.{DIGITS, DONE, TEXT, WORDS}
-use Rattle.workload.specs.declared.registers.Register.TheVariants.{A0, A1, A2, A7, Data, Hart, Harts, Left, Sum, T0, T1, T2, Word, Zero}
+use Rattle.workload.specs.declared.registers.Register.TheVariants.{A0, A1, A2, A7, Data, Hart, Harts, Left, Sum, T0, T1}
+use Rattle.workload.specs.declared.registers.Register.TheVariants.{T2, Word, Zero}
 use Rattle.workload.specs.Mnemonics.{add, addi, address, amoadd_w_rl, ecall, fence, lbu, li, lw, sb, slli, srli}
 use Rattle.workload.specs.Parts.{again}
 use Rattle.workload.specs.Putting.{bne, here, j, next_label, ◌▸◌, ◌▹◌}

@@ -7,7 +7,8 @@ use Rattle.workload.specs.declared.parts.Taking.{Taking}
 use Rattle.workload.specs.declared.parts.Taking.TheVariants.{ByPair, BySwap}
 use Rattle.workload.specs.declared.registers.Register.{Register}
 use Rattle.workload.specs.declared.registers.Register.TheVariants.{A0, A7, Data, Hart, State, T0, T1, T2, Zero}
-use Rattle.workload.specs.Mnemonics.{add, addi, amoswap_w_aq, amoswap_w_rl, andi, ecall, li, lr_w, lui, lw, sc_w, slli, sltiu, srli, sw, xor}
+use Rattle.workload.specs.Mnemonics.{add, addi, amoswap_w_aq, amoswap_w_rl, andi, ecall, li, lr_w, lui, lw, sc_w, slli}
+use Rattle.workload.specs.Mnemonics.{sltiu, srli, sw, xor}
 use Rattle.workload.specs.Putting.{bne, here, next_label, ◌▸◌, ◌▹◌}
 
 -- a register is counted down by 1, and the hart goes back unless that gives 0

@@ -3,7 +3,8 @@ use Rattle.std.specs.Prelude.{ℕ}
 use Rattle.rv_word.specs.Field.{reg_field}
 use Rattle.rv_word.specs.declared.reg.Reg.{Reg}
 use Rattle.workload.specs.declared.registers.Register.{Register}
-use Rattle.workload.specs.declared.registers.Register.TheVariants.{A0, A1, A2, A7, Data, Hart, Harts, Left, Lock, OtherLock, OtherWord, RoundsLeft}
+use Rattle.workload.specs.declared.registers.Register.TheVariants.{A0, A1, A2, A7, Data, Hart, Harts, Left, Lock}
+use Rattle.workload.specs.declared.registers.Register.TheVariants.{OtherLock, OtherWord, RoundsLeft}
 use Rattle.workload.specs.declared.registers.Register.TheVariants.{State, Sum, T0, T1, T2, Word, Zero}
 
 abbrev pub number_of : Register → ℕ

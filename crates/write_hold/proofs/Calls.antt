@@ -1,5 +1,6 @@
 -- A hold and its pool after each call.
-use Rattle.std.proofs.Common.{◌≡◌, ℕ, ◌+◌, ◌==◌, if◌then◌else◌, ◌&&◌, nat_le, nat_lt, Bool, true, false, List, length, slice_index, None, Some}
+use Rattle.std.proofs.Common.{◌≡◌, ℕ, ◌+◌, ◌==◌, if◌then◌else◌, ◌&&◌, nat_le, nat_lt, Bool, true, false, List, length}
+use Rattle.std.proofs.Common.{slice_index, None, Some}
 use Rattle.std.proofs.Common.{bit_or, refl, ap, sym, subst, ◌∙◌, arith}
 use Rattle.std.specs.Int.{bit_at}
 use Rattle.std.specs.Option.{unwrap_or}
@@ -19,12 +20,14 @@ pub merged-over : (pool : Pooled) (entry : code.Entry) (under : List ℕ) (place
 merged-over pool entry under place = by_bit (bit_at entry.mask place == 1)
   where
     by_bit : (set : Bool) → (if set then slice_index (bytes_of pool entry.slot) place else slice_index under place)
-        ≡ unwrap_or (if set then Some (slice_index (bytes_of pool entry.slot) place) else None) (slice_index under place)
+        ≡ unwrap_or (if set then Some (slice_index (bytes_of pool entry.slot) place) else None)
+        (slice_index under place)
     by_bit true = refl
     by_bit false = refl
 
 -- a word of such bytes is what is loaded
-pub loaded-word : (byte seen : ℕ → ℕ) (place : ℕ) → ((p : ℕ) → byte p ≡ seen p) → word_at byte place ≡ loaded seen place 4
+pub loaded-word : (byte seen : ℕ → ℕ) (place : ℕ) → ((p : ℕ) → byte p ≡ seen p) →
+    word_at byte place ≡ loaded seen place 4
 loaded-word byte seen place each =
     word-nested byte place
     ∙ omega (
@@ -50,7 +53,9 @@ unmerged under place = merged-none under under place
 -- an entry after bytes were written into its slot, and its mask got their places
 pub entry-stored : (before after : Pooled) (old new : code.Entry) (offset run : ℕ) (bytes now : List ℕ)
     → IsWritten before after old.slot now → new.line ≡ old.line → new.slot ≡ old.slot → new.mask ≡ bit_or old.mask run
-    → ((place : ℕ) → Some (slice_index now place) ≡ laid offset bytes place (Some (slice_index (bytes_of before old.slot) place)))
+    →
+    ((place : ℕ) → Some (slice_index now place) ≡ laid offset bytes place
+    (Some (slice_index (bytes_of before old.slot) place)))
     → ((place : ℕ) → (bit_at run place == 1) ≡ (nat_le offset place && nat_lt place (offset + length bytes)))
     → IsStored before after old new offset bytes
 entry-stored before after old new offset run bytes now written line slot mask is marked = record {

@@ -1,5 +1,6 @@
 -- What a look-up finds in a list after an element was taken out or put at its end, and what `position` tells of it.
-use Rattle.std.proofs.Common.{◌≡◌, ℕ, zero, suc, ◌+◌, ◌<◌, cond, Bool, true, false, List, [], ◌∷◌, ◌++◌, length, get_or, Option, None, Some, is_some}
+use Rattle.std.proofs.Common.{◌≡◌, ℕ, zero, suc, ◌+◌, ◌<◌, cond, Bool, true, false, List, [], ◌∷◌, ◌++◌, length, get_or}
+use Rattle.std.proofs.Common.{Option, None, Some, is_some}
 use Rattle.std.proofs.Common.{refl, ap, sym, ◌∙◌, arith}
 use Rattle.std.specs.List.{count_by, find, position, remove, slice_get}
 use Rattle.std.specs.Option.{option_or}
@@ -10,7 +11,8 @@ use Rattle.el_base.proofs.Laws.ListLaws.{find_by_no_position, place_by_position}
 
 module _ {X : Type 0} (p : X → Bool) where
   -- an element that is not looked for was taken out
-  pub find_removed_other : (xs : List X) (i : ℕ) (d : X) → i < length xs → p (get_or xs i d) ≡ false → find p (remove xs i) ≡ find p xs
+  pub find_removed_other : (xs : List X) (i : ℕ) (d : X) → i < length xs → p (get_or xs i d) ≡ false →
+      find p (remove xs i) ≡ find p xs
   find_removed_other [] i d within not_it = absurd (omega arith)
   find_removed_other (x ∷ xs) zero d within not_it = sym (ap (λ own. cond own (Some x) (find p xs)) not_it)
   find_removed_other (x ∷ xs) (suc i) d within not_it =
@@ -19,7 +21,8 @@ module _ {X : Type 0} (p : X → Bool) where
   -- an element came at the end, and is looked for or not
   pub find_pushed_same : (xs : List X) (y : X) → find p xs ≡ None → p y ≡ true → find p (xs ++ y ∷ []) ≡ Some y
   find_pushed_same xs y none passes =
-      find-append p xs (y ∷ []) ∙ ap (λ found. option_or found (find p (y ∷ []))) none ∙ ap (λ own. cond own (Some y) None) passes
+      find-append p xs (y ∷ []) ∙ ap (λ found. option_or found (find p (y ∷ []))) none
+      ∙ ap (λ own. cond own (Some y) None) passes
 
   pub find_pushed_other : (xs : List X) (y : X) → p y ≡ false → find p (xs ++ y ∷ []) ≡ find p xs
   find_pushed_other xs y fails =
@@ -32,7 +35,8 @@ module _ {X : Type 0} (p : X → Bool) where
   -- nothing passes exactly where none is counted
   pub find_none_counted : (xs : List X) → count_by p xs ≡ 0 → find p xs ≡ None
   find_none_counted [] none = refl
-  find_none_counted (x ∷ xs) none = step (p x) (omega (arith, sum_by-cons (λ y. cond (p y) 1 0) x xs)) (find_none_counted xs)
+  find_none_counted (x ∷ xs) none =
+      step (p x) (omega (arith, sum_by-cons (λ y. cond (p y) 1 0) x xs)) (find_none_counted xs)
     where
       step : (own : Bool) → cond own 1 0 + count_by p xs ≡ 0 → (count_by p xs ≡ 0 → find p xs ≡ None)
           → cond own (Some x) (find p xs) ≡ None
@@ -49,7 +53,8 @@ module _ {X : Type 0} (p : X → Bool) where
       step false none rest = omega (arith, rest none)
 
   -- what was read at the place that `position` tells
-  pub found_at_position : (xs : List X) (i : ℕ) (x : X) → position p xs ≡ Some i → x ≡ get_or xs i x → find p xs ≡ Some x
+  pub found_at_position : (xs : List X) (i : ℕ) (x : X) → position p xs ≡ Some i → x ≡ get_or xs i x →
+      find p xs ≡ Some x
   found_at_position xs i x is read =
       let at = place_by_position p xs i is in
       find_at p xs ∙ ap (slice_get xs) at.0 ∙ slice_get_read xs (length xs) i x refl at.1 read

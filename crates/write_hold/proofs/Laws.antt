@@ -1,7 +1,9 @@
--- Laws of lent holds for the layers above: what other owners' calls leave of them, how they begin, and when they are full.
+-- Laws of lent holds for the layers above: what other owners' calls leave of them, how they
+-- begin, and when they are full.
 pub mod Masks
 pub mod LookUps
-use Rattle.std.proofs.Common.{◌≡◌, ◌≢◌, ℕ, ◌≤◌, ◌<◌, if◌then◌else◌, List, [], ◌∷◌, length, map, refl, ap, sym, subst, ◌∙◌, arith}
+use Rattle.std.proofs.Common.{◌≡◌, ◌≢◌, ℕ, ◌≤◌, ◌<◌, if◌then◌else◌, List, [], ◌∷◌, length, map, refl, ap, sym, subst}
+use Rattle.std.proofs.Common.{◌∙◌, arith}
 use Rattle.std.specs.Prelude.{◌↔◌, false, slice_index}
 use Rattle.std.proofs.lemmas.Bool.Decides.{nat_tests}
 use Rattle.std.proofs.lemmas.List.{length-map}
@@ -33,17 +35,21 @@ same_entries old new (place ∷ entries) same =
     (same_entries old new entries (λ s among. same s (omega (arith, among, sum_by-cons (one_at s) place.slot slots))))
 
 pub lent-alike : (old new : Pooled) (hold : Slotted)
-    → ((slot : Slot) → 1 ≤ times_among (slots_of hold) slot → bytes_of new slot ≡ bytes_of old slot) → lent new hold ≡ lent old hold
+    → ((slot : Slot) → 1 ≤ times_among (slots_of hold) slot → bytes_of new slot ≡ bytes_of old slot) →
+    lent new hold ≡ lent old hold
 lent-alike old new hold same =
     ap (λ entries. record { limit = hold.limit; entries = entries }) (same_entries old new hold.entries same)
 
 -- what another owner's call leaves of a hold: its bytes, and what it owes
-pub lent-left : (owner : ℕ) (old new : Pooled) (hold : Slotted) → LeavesOthers owner old new → hold.owner ≢ owner → IsLent old hold
+pub lent-left : (owner : ℕ) (old new : Pooled) (hold : Slotted) → LeavesOthers owner old new →
+    hold.owner ≢ owner → IsLent old hold
     → lent new hold ≡ lent old hold
 lent-left owner old new hold leaves apart owes =
-    lent-alike old new hold (λ slot among. bytes-left owner hold.owner old new (slots_of hold) slot leaves apart owes.keeps among)
+    lent-alike old new hold
+    (λ slot among. bytes-left owner hold.owner old new (slots_of hold) slot leaves apart owes.keeps among)
 
-pub is_lent-left : (owner : ℕ) (old new : Pooled) (hold : Slotted) → LeavesOthers owner old new → hold.owner ≢ owner → IsLent old hold
+pub is_lent-left : (owner : ℕ) (old new : Pooled) (hold : Slotted) → LeavesOthers owner old new →
+    hold.owner ≢ owner → IsLent old hold
     → IsLent new hold
 is_lent-left owner old new hold leaves apart owes = record {
   there = subst (λ quotas. hold.owner < length quotas) (sym leaves.quotas) owes.there;
@@ -52,11 +58,14 @@ is_lent-left owner old new hold leaves apart owes = record {
 }
 
 -- a hold of nothing, in any pool of which its owner has nothing out
-pub is_lent-empty : (pool : Pooled) (limit owner : ℕ) → owner < length (quotas_of pool) → quota_of pool owner ≡ limit → out_of pool owner ≡ 0
+pub is_lent-empty : (pool : Pooled) (limit owner : ℕ) → owner < length (quotas_of pool) → quota_of pool owner ≡ limit →
+    out_of pool owner ≡ 0
     → IsLent pool (record { limit = limit; owner = owner; entries = [] })
-is_lent-empty pool limit owner there quota none = record { there = there; quota = quota; keeps = keeps-none pool owner none }
+is_lent-empty pool limit owner there quota none =
+    record { there = there; quota = quota; keeps = keeps-none pool owner none }
 
-pub is_lent-made : (pool : Pooled) (given : List ℕ) (limit owner : ℕ) → IsMade given pool → owner < length given → slice_index given owner ≡ limit
+pub is_lent-made : (pool : Pooled) (given : List ℕ) (limit owner : ℕ) → IsMade given pool → owner < length given →
+    slice_index given owner ≡ limit
     → IsLent pool (record { limit = limit; owner = owner; entries = [] })
 is_lent-made pool given limit owner made there quota =
     is_lent-empty pool limit owner (subst (λ quotas. owner < length quotas) (sym made.quotas) there)
@@ -64,10 +73,14 @@ is_lent-made pool given limit owner made there quota =
 
 -- a lent hold is full for a line exactly where the line is new and its owner has its whole quota out
 pub full-exactly : (pool : Pooled) (hold : Slotted) (line : ℕ) → IsLent pool hold
-    → IsFull (lent pool hold) line ↔ ((holds (lent pool hold).entries line ≡ false) × (out_of pool hold.owner ≡ quota_of pool hold.owner))
-full-exactly pool hold line owes =
-    (λ full. (full.absent, omega (arith, full.full, lines, owes.quota)), λ out. record { absent = out.0; full = omega (arith, out.1, lines, owes.quota) })
+    → IsFull (lent pool hold) line
+    ↔ ((holds (lent pool hold).entries line ≡ false) × (out_of pool hold.owner ≡ quota_of pool hold.owner))
+full-exactly pool hold line owes = (
+  λ full. (full.absent, omega (arith, full.full, lines, owes.quota)),
+  λ out. record { absent = out.0; full = omega (arith, out.1, lines, owes.quota) },
+)
   where
     lines : length (lent pool hold).entries ≡ out_of pool hold.owner
     lines =
-        length-map hold.entries (lent_entry pool) ∙ sym (length-map hold.entries (λ (place : Place). place.slot)) ∙ owes.keeps.all
+        length-map hold.entries (lent_entry pool) ∙ sym (length-map hold.entries (λ (place : Place). place.slot))
+        ∙ owes.keeps.all

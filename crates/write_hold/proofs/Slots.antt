@@ -1,5 +1,7 @@
--- The slots of a hold's entries: each is out, of the hold's owner and of one line, and what a hold owes its pool after each call.
-use Rattle.std.proofs.Common.{◌≡◌, ◌≢◌, ℕ, ◌+◌, ◌≤◌, ◌<◌, if◌then◌else◌, Bool, true, false, List, [], ◌∷◌, ◌++◌, length, get_or, map, set, Some, refl}
+-- The slots of a hold's entries: each is out, of the hold's owner and of one line, and what a hold
+-- owes its pool after each call.
+use Rattle.std.proofs.Common.{◌≡◌, ◌≢◌, ℕ, ◌+◌, ◌≤◌, ◌<◌, if◌then◌else◌, Bool, true, false, List, [], ◌∷◌, ◌++◌, length}
+use Rattle.std.proofs.Common.{get_or, map, set, Some, refl}
 use Rattle.std.proofs.Common.{ap, sym, subst, ◌∙◌, arith}
 use Rattle.std.specs.List.{remove, sum_by}
 use Rattle.std.specs.Prelude.{slice_index}
@@ -14,7 +16,8 @@ use Rattle.line_pool.specs.Calls.{IsGiven, IsTaken, IsWritten}
 use Rattle.line_pool.specs.Keeping.{Keeps, same_slot, times_among}
 use Rattle.line_pool.specs.Others.{LeavesOthers}
 use Rattle.line_pool.specs.Pooled.{Pooled, is_out, out_of, owner_of}
-use Rattle.line_pool.proofs.Laws.{has-out, keeps-given, keeps-permuted, keeps-taken, keeps-written, kept-out, kept-owner, stays_out}
+use Rattle.line_pool.proofs.Laws.{has-out, keeps-given, keeps-permuted, keeps-taken, keeps-written, kept-out}
+use Rattle.line_pool.proofs.Laws.{kept-owner, stays_out}
 use Rattle.line_pool.proofs.Laws.OtherLaws.{leaves-given, leaves-taken, leaves-then, leaves-written}
 use Rattle.write_hold.specs.declared.entry.Entry as code
 use Rattle.write_hold.specs.Entries.{hold_of, seen_entry}
@@ -23,11 +26,13 @@ use Rattle.write_hold.proofs.Shown.{StayBeside}
 use Rattle.write_hold.proofs.Steps.{found}
 
 -- what is found has its part in a sum, and two that are found have theirs
-part_found : (f : code.Entry → ℕ) (entries : List code.Entry) (line : ℕ) (x : code.Entry) → found entries line ≡ Some x → f x ≤ sum_by f entries
+part_found : (f : code.Entry → ℕ) (entries : List code.Entry) (line : ℕ) (x : code.Entry) →
+    found entries line ≡ Some x → f x ≤ sum_by f entries
 part_found f [] line x is = absurd cc
 part_found f (z ∷ entries) line x is = grind (arith, nat_tests, sum_by-cons f z entries, part_found f entries line x)
 
-two_found : (f : code.Entry → ℕ) (entries : List code.Entry) (line l : ℕ) (x y : code.Entry) → l ≢ line → found entries line ≡ Some x
+two_found : (f : code.Entry → ℕ) (entries : List code.Entry) (line l : ℕ) (x y : code.Entry) → l ≢ line →
+    found entries line ≡ Some x
     → found entries l ≡ Some y → f x + f y ≤ sum_by f entries
 two_found f [] line l x y apart is there = absurd cc
 two_found f (z ∷ entries) line l x y apart is there =
@@ -47,24 +52,34 @@ slot-sum g entries =
     fold-map (λ total s. total + g s) (λ (place : Place). place.slot) 0 (map seen_entry entries)
     ∙ fold-map (λ total (place : Place). total + g place.slot) seen_entry 0 entries
 
-slots_are : (entries : List code.Entry) → map (λ (place : Place). place.slot) (map seen_entry entries) ≡ map (λ (e : code.Entry). e.slot) entries
+slots_are : (entries : List code.Entry) →
+    map (λ (place : Place). place.slot) (map seen_entry entries) ≡ map (λ (e : code.Entry). e.slot) entries
 slots_are [] = refl
 slots_are (e ∷ entries) = ap (λ rest. e.slot ∷ rest) (slots_are entries)
 
 abbrev one_at : Slot → Slot → ℕ
 one_at slot other = if same_slot other slot then 1 else 0
 
-pub count-shown : (limit owner : ℕ) (entries : List code.Entry) → length (slots_of (hold_of limit owner entries)) ≡ length entries
-count-shown limit owner entries = length-map (map seen_entry entries) (λ (place : Place). place.slot) ∙ length-map entries seen_entry
+pub count-shown : (limit owner : ℕ) (entries : List code.Entry) →
+    length (slots_of (hold_of limit owner entries)) ≡ length entries
+count-shown limit owner entries =
+    length-map (map seen_entry entries) (λ (place : Place). place.slot) ∙ length-map entries seen_entry
 
-module _ (pool : Pooled) (limit owner : ℕ) (entries : List code.Entry) (owes : IsLent pool (hold_of limit owner entries)) where
+module _ (pool : Pooled) (limit owner : ℕ) (entries : List code.Entry)
+    (owes : IsLent pool (hold_of limit owner entries)) where
   -- as many are out as there are lines, and no more than there may be
   pub out-counted : out_of pool owner ≡ length entries
   out-counted = sym owes.keeps.all ∙ count-shown limit owner entries
 
   module _ (line : ℕ) (x : code.Entry) (is : found entries line ≡ Some x) where
     among : 1 ≤ times_among (slots_of (hold_of limit owner entries)) x.slot
-    among = grind (arith, nat_tests, slot-sum (one_at x.slot) entries, part_found (λ e. one_at x.slot e.slot) entries line x is)
+    among =
+        grind (
+          arith,
+          nat_tests,
+          slot-sum (one_at x.slot) entries,
+          part_found (λ e. one_at x.slot e.slot) entries line x is,
+        )
 
     pub entry-out : is_out pool x.slot ≡ true
     entry-out = kept-out pool owner (slots_of (hold_of limit owner entries)) x.slot owes.keeps among
@@ -85,20 +100,31 @@ module _ (pool : Pooled) (limit owner : ℕ) (entries : List code.Entry) (owes :
         at_most false few = omega (arith, few)
 
     -- its slot was written, or given back
-    pub stay-written : (after : Pooled) (bytes : List ℕ) → IsWritten pool after x.slot bytes → StayBeside pool after entries line
+    pub stay-written : (after : Pooled) (bytes : List ℕ) → IsWritten pool after x.slot bytes →
+        StayBeside pool after entries line
     stay-written after bytes written l y apart there =
-        written.others y.slot (has-out pool y.slot (kept-out pool owner (slots_of (hold_of limit owner entries)) y.slot owes.keeps
-        (grind (arith, nat_tests, slot-sum (one_at y.slot) entries, part_found (λ e. one_at y.slot e.slot) entries l y there))))
+        written.others y.slot
+        (has-out pool y.slot (kept-out pool owner (slots_of (hold_of limit owner entries)) y.slot owes.keeps
+        (grind (
+          arith,
+          nat_tests,
+          slot-sum (one_at y.slot) entries,
+          part_found (λ e. one_at y.slot e.slot) entries l y there,
+        ))))
         (entries-apart l y apart there)
 
-    pub leaves-written_entry : (after : Pooled) (bytes : List ℕ) → IsWritten pool after x.slot bytes → LeavesOthers owner pool after
-    leaves-written_entry after bytes written = subst (λ o. LeavesOthers o pool after) entry-owner (leaves-written pool after x.slot bytes written)
+    pub leaves-written_entry : (after : Pooled) (bytes : List ℕ) → IsWritten pool after x.slot bytes →
+        LeavesOthers owner pool after
+    leaves-written_entry after bytes written =
+        subst (λ o. LeavesOthers o pool after) entry-owner (leaves-written pool after x.slot bytes written)
 
     pub leaves-given_entry : (after : Pooled) → IsGiven pool after x.slot → LeavesOthers owner pool after
-    leaves-given_entry after given = subst (λ o. LeavesOthers o pool after) entry-owner (leaves-given pool after x.slot given)
+    leaves-given_entry after given =
+        subst (λ o. LeavesOthers o pool after) entry-owner (leaves-given pool after x.slot given)
 
   -- an entry was stored in at a place: it has the slot that it had
-  pub lent-written : (after : Pooled) (place : ℕ) (x y : code.Entry) (bytes : List ℕ) → x ≡ get_or entries place x → y.slot ≡ x.slot
+  pub lent-written : (after : Pooled) (place : ℕ) (x y : code.Entry) (bytes : List ℕ) →
+      x ≡ get_or entries place x → y.slot ≡ x.slot
       → IsWritten pool after x.slot bytes → IsLent after (hold_of limit owner (set entries place y))
   lent-written after place x y bytes read same written = record {
     there = subst (λ quotas. owner < length quotas) (sym written.quotas) owes.there;
@@ -110,11 +136,13 @@ module _ (pool : Pooled) (limit owner : ℕ) (entries : List code.Entry) (owes :
     where
       slots : slots_of (hold_of limit owner (set entries place y)) ≡ slots_of (hold_of limit owner entries)
       slots =
-          slots_are (set entries place y) ∙ map-set_same (λ (e : code.Entry). e.slot) entries place y x (same ∙ ap (λ (e : code.Entry). e.slot) read)
+          slots_are (set entries place y) ∙ map-set_same (λ (e : code.Entry). e.slot) entries place y x
+          (same ∙ ap (λ (e : code.Entry). e.slot) read)
           ∙ sym (slots_are entries)
 
   -- an entry came, with a slot that was taken, and was stored in
-  module _ (between after : Pooled) (y : code.Entry) (slot : Slot) (bytes : List ℕ) (taken : IsTaken pool between owner slot)
+  module _ (between after : Pooled) (y : code.Entry) (slot : Slot) (bytes : List ℕ)
+      (taken : IsTaken pool between owner slot)
       (written : IsWritten between after slot bytes) (same : y.slot ≡ slot) where
     pub stay-taken : (line : ℕ) → StayBeside pool after entries line
     stay-taken line l e apart there =
@@ -134,7 +162,8 @@ module _ (pool : Pooled) (limit owner : ℕ) (entries : List code.Entry) (owes :
       quota = ap (λ quotas. slice_index quotas owner) (written.quotas ∙ taken.quotas) ∙ owes.quota;
       keeps =
           keeps-written between after owner (slots_of (hold_of limit owner (entries ++ y ∷ []))) slot bytes
-          (keeps-permuted between owner (slot ∷ slots_of (hold_of limit owner entries)) (slots_of (hold_of limit owner (entries ++ y ∷ [])))
+          (keeps-permuted between owner (slot ∷ slots_of (hold_of limit owner entries))
+          (slots_of (hold_of limit owner (entries ++ y ∷ [])))
           (keeps-taken pool between owner (slots_of (hold_of limit owner entries)) slot owes.keeps taken)
           (omega (
             arith,
@@ -154,14 +183,16 @@ module _ (pool : Pooled) (limit owner : ℕ) (entries : List code.Entry) (owes :
     }
 
   -- an entry left from a place, and its slot was given back
-  pub lent-given : (after : Pooled) (place : ℕ) (x : code.Entry) → place < length entries → x ≡ get_or entries place x → IsGiven pool after x.slot
+  pub lent-given : (after : Pooled) (place : ℕ) (x : code.Entry) → place < length entries → x ≡ get_or entries place x →
+      IsGiven pool after x.slot
       → IsLent after (hold_of limit owner (remove entries place))
   lent-given after place x within read given = record {
     there = subst (λ quotas. owner < length quotas) (sym given.quotas) owes.there;
     quota = ap (λ quotas. slice_index quotas owner) given.quotas ∙ owes.quota;
     keeps =
         keeps-given pool after owner (slots_of (hold_of limit owner (remove entries place))) x.slot
-        (keeps-permuted pool owner (slots_of (hold_of limit owner entries)) (x.slot ∷ slots_of (hold_of limit owner (remove entries place)))
+        (keeps-permuted pool owner (slots_of (hold_of limit owner entries))
+        (x.slot ∷ slots_of (hold_of limit owner (remove entries place)))
         owes.keeps
         (omega (
           arith,
@@ -205,8 +236,15 @@ module _ (pool : Pooled) (limit owner : ℕ) (entries : List code.Entry) (owes :
         quota = ap (λ quotas. slice_index quotas owner) given.quotas ∙ owes.quota;
         keeps =
             keeps-given pool after owner (slots_of (hold_of limit owner rest)) x.slot
-            (keeps-permuted pool owner (slots_of (hold_of limit owner entries)) (x.slot ∷ slots_of (hold_of limit owner rest)) owes.keeps
-            (omega (arith, count-shown limit owner rest, count-shown limit owner entries, ap length is, length_push rest x))
+            (keeps-permuted pool owner (slots_of (hold_of limit owner entries))
+            (x.slot ∷ slots_of (hold_of limit owner rest)) owes.keeps
+            (omega (
+              arith,
+              count-shown limit owner rest,
+              count-shown limit owner entries,
+              ap length is,
+              length_push rest x,
+            ))
             (λ s. omega (
               arith,
               slot-sum (one_at s) rest,

@@ -1,5 +1,6 @@
 -- What an entry has after bytes were stored in it, and a line after those of an entry were merged into it.
-use Rattle.std.proofs.Common.{◌≡◌, ℕ, ◌+◌, ◌-◌, ◌<◌, ◌≤◌, ◌==◌, ◌&&◌, ◌||◌, nat_le, nat_lt, if◌then◌else◌, Bool, true, false, List, ◌++◌, drop}
+use Rattle.std.proofs.Common.{◌≡◌, ℕ, ◌+◌, ◌-◌, ◌<◌, ◌≤◌, ◌==◌, ◌&&◌, ◌||◌, nat_le, nat_lt, if◌then◌else◌, Bool, true}
+use Rattle.std.proofs.Common.{false, List, ◌++◌, drop}
 use Rattle.std.proofs.Common.{length, take, slice_index, Option, None, Some, bit_or, refl, inl, inr, ap, ◌∙◌, arith}
 use Rattle.std.specs.Int.{bit_at}
 use Rattle.std.proofs.lemmas.Bool.{cases_lt}
@@ -16,7 +17,8 @@ module _ (offset : ℕ) (bytes old : List ℕ) (inside : offset + length bytes �
   put_below : place < offset → slice_index (put_at offset bytes old) place ≡ slice_index old place
   put_below below = grind (arith, common_steps)
 
-  put_inside : offset ≤ place → place < offset + length bytes → slice_index (put_at offset bytes old) place ≡ slice_index bytes (place - offset)
+  put_inside : offset ≤ place → place < offset + length bytes →
+      slice_index (put_at offset bytes old) place ≡ slice_index bytes (place - offset)
   put_inside past before = grind (arith, common_steps)
 
   put_above : offset + length bytes ≤ place → slice_index (put_at offset bytes old) place ≡ slice_index old place
@@ -29,10 +31,12 @@ written true new old put inside outside = ap Some (inside refl)
 written false new old put inside outside = ap Some (outside refl)
 
 -- the list at each place: what was laid over it
-pub written_over : (offset place : ℕ) (bytes old now : List ℕ) → offset + length bytes ≤ length old → now ≡ put_at offset bytes old
+pub written_over : (offset place : ℕ) (bytes old now : List ℕ) → offset + length bytes ≤ length old →
+    now ≡ put_at offset bytes old
     → Some (slice_index now place) ≡ laid offset bytes place (Some (slice_index old place))
 written_over offset place bytes old now inside is =
-    written (nat_le offset place && nat_lt place (offset + length bytes)) (slice_index now place) (slice_index old place)
+    written (nat_le offset place && nat_lt place (offset + length bytes)) (slice_index now place)
+    (slice_index old place)
     (slice_index bytes (place - offset)) (λ within. ap (λ l. slice_index l place) is ∙ there within)
     (λ beyond. ap (λ l. slice_index l place) is ∙ elsewhere beyond)
   where
@@ -65,6 +69,8 @@ pub stored_over : (offset place mask run : ℕ) (bytes old now : List ℕ)
     → stored (bit_at (bit_or mask run) place == 1) (slice_index now place)
     ≡ laid offset bytes place (stored (bit_at mask place == 1) (slice_index old place))
 stored_over offset place mask run bytes old now is marked =
-    ap (λ known. stored known (slice_index now place)) (bit_in_or mask run place ∙ ap (λ within. bit_at mask place == 1 || within) marked)
-    ∙ chosen (bit_at mask place == 1) (nat_le offset place && nat_lt place (offset + length bytes)) (slice_index now place)
+    ap (λ known. stored known (slice_index now place))
+    (bit_in_or mask run place ∙ ap (λ within. bit_at mask place == 1 || within) marked)
+    ∙ chosen (bit_at mask place == 1) (nat_le offset place && nat_lt place (offset + length bytes))
+    (slice_index now place)
     (slice_index old place) (slice_index bytes (place - offset)) is

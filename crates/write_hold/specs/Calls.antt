@@ -1,5 +1,6 @@
 -- what each call of a hold makes of it
-use Rattle.std.specs.Prelude.{ℕ, ◌≡◌, ◌≢◌, ◌≤◌, ◌<◌, ◌+◌, ◌*◌, ◌==◌, true, false, if◌then◌else◌, List, count_by, length, slice_index}
+use Rattle.std.specs.Prelude.{ℕ, ◌≡◌, ◌≢◌, ◌≤◌, ◌<◌, ◌+◌, ◌*◌, ◌==◌, true, false, if◌then◌else◌, List, count_by, length}
+use Rattle.std.specs.Prelude.{slice_index}
 use Rattle.el_base.specs.declared.line.TheConstants.{LINE_BYTES}
 use Rattle.write_hold.specs.Held.{Held, entry_of, held, holds, laid, seen_at}
 
@@ -18,7 +19,8 @@ pub record IsFull (hold : Held) (line : ℕ) : Type 0 where
 -- bytes were put at a place of a line: each address has what is laid over what it had
 pub record IsPut (old new : Held) (line offset : ℕ) (bytes : List ℕ) : Type 0 where
   pub limit : new.limit ≡ old.limit
-  pub put : (address : ℕ) → held new.entries address ≡ laid (line * LINE_BYTES + offset) bytes address (held old.entries address)
+  pub put : (address : ℕ) → held new.entries address ≡ laid (line * LINE_BYTES + offset) bytes address
+      (held old.entries address)
   pub there : holds new.entries line ≡ true
   pub others : (l : ℕ) → l ≢ line → entry_of new.entries l ≡ entry_of old.entries l
   -- one line more where it was new

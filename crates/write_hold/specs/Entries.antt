@@ -27,7 +27,8 @@ pub record HoldStands (limit room : ℕ) (entries : List code.Entry) : Type 0 wh
 
 -- the byte of an entry over the one under it
 abbrev pub byte_over : Pooled → code.Entry → List ℕ → ℕ → ℕ
-byte_over pool entry under place = unwrap_or (stored_at (lent_entry pool (seen_entry entry)) place) (slice_index under place)
+byte_over pool entry under place =
+    unwrap_or (stored_at (lent_entry pool (seen_entry entry)) place) (slice_index under place)
 
 -- bytes were stored in an entry from a place on: its slot alone was written
 pub record IsStored (before after : Pooled) (old new : code.Entry) (offset : ℕ) (bytes : List ℕ) : Type 0 where
@@ -39,4 +40,5 @@ pub record IsStored (before after : Pooled) (old new : code.Entry) (offset : ℕ
 
 -- a line's bytes after those of an entry were merged into them
 abbrev pub IsMerged : Pooled → code.Entry → List ℕ → List ℕ → Type 0
-IsMerged pool entry before after = (place : ℕ) → place < LINE_BYTES → slice_index after place ≡ byte_over pool entry before place
+IsMerged pool entry before after =
+    (place : ℕ) → place < LINE_BYTES → slice_index after place ≡ byte_over pool entry before place

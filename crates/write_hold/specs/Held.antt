@@ -1,5 +1,6 @@
 -- a hold: lines, each with the bytes that were stored in it
-use Rattle.std.specs.Prelude.{ℕ, ◌+◌, ◌-◌, ◌%◌, Bool, ◌==◌, ◌&&◌, ◌||◌, nat_le, nat_lt, if◌then◌else◌, List, find, length, slice_index, Option, None}
+use Rattle.std.specs.Prelude.{ℕ, ◌+◌, ◌-◌, ◌%◌, Bool, ◌==◌, ◌&&◌, ◌||◌, nat_le, nat_lt, if◌then◌else◌, List, find}
+use Rattle.std.specs.Prelude.{length, slice_index, Option, None}
 use Rattle.std.specs.Prelude.{Some, is_some, option_and_then, unwrap_or}
 use Rattle.std.specs.Int.{bit_at}
 use Rattle.el_base.specs.Line.{line_number}
@@ -38,7 +39,8 @@ held entries address = held_at entries (line_number address) (address % LINE_BYT
 -- what an address has after these bytes were laid from another on, over what it had
 abbrev pub laid : ℕ → List ℕ → ℕ → Option ℕ → Option ℕ
 laid start bytes address under =
-    if nat_le start address && nat_lt address (start + length bytes) then Some (slice_index bytes (address - start)) else under
+    if nat_le start address && nat_lt address (start + length bytes)
+    then Some (slice_index bytes (address - start)) else under
 
 -- the byte at a place of a line as its hart sees it: the held one, else the one under it
 abbrev pub seen_at : List Entry → ℕ → List ℕ → ℕ → ℕ

@@ -1,5 +1,6 @@
 -- What a look-up finds in the order after each call: of the same hart or line, and of another one.
-use Rattle.std.proofs.Common.{◌≡◌, ◌≢◌, ℕ, ◌==◌, not, Bool, true, false, cond, List, [], ◌∷◌, Option, Some, None, refl, ap, sym, ◌∙◌, arith}
+use Rattle.std.proofs.Common.{◌≡◌, ◌≢◌, ℕ, ◌==◌, not, Bool, true, false, cond, List, [], ◌∷◌, Option, Some, None, refl}
+use Rattle.std.proofs.Common.{ap, sym, ◌∙◌, arith}
 use Rattle.std.specs.List.{find}
 use Rattle.std.specs.Option.{option_or}
 use Rattle.std.proofs.lemmas.Bool.Decides.{nat_tests}
@@ -25,13 +26,17 @@ module _ (p : Request → Bool) where
   found_appended_own order new own =
       find-append p order (new ∷ []) ∙ ap (λ test. option_or (find p order) (cond test (Some new) None)) own
 
-  found_appended_other : (order : List Request) (new : Request) → p new ≡ false → find p (appended order new) ≡ find p order
+  found_appended_other : (order : List Request) (new : Request) → p new ≡ false →
+      find p (appended order new) ≡ find p order
   found_appended_other order new other =
-      find-append p order (new ∷ []) ∙ ap (λ test. option_or (find p order) (cond test (Some new) None)) other ∙ or_nothing (find p order)
+      find-append p order (new ∷ []) ∙ ap (λ test. option_or (find p order) (cond test (Some new) None)) other
+      ∙ or_nothing (find p order)
 
-  found_in_front_other : (order : List Request) (new : Request) → p new ≡ false → find p (in_front_of order new) ≡ find p order
+  found_in_front_other : (order : List Request) (new : Request) → p new ≡ false →
+      find p (in_front_of order new) ≡ find p order
   found_in_front_other [] new other = ap (λ test. cond test (Some new) None) other
-  found_in_front_other (request ∷ order) new other = step (request.line == new.line) (found_in_front_other order new other)
+  found_in_front_other (request ∷ order) new other =
+      step (request.line == new.line) (found_in_front_other order new other)
     where
       step : (on_line : Bool) → find p (in_front_of order new) ≡ find p order
           → find p (cond on_line (new ∷ request ∷ order) (request ∷ in_front_of order new)) ≡ find p (request ∷ order)
@@ -59,7 +64,8 @@ request_of_in_front_of_own [] new none = ap (λ test. cond test (Some new) None)
 request_of_in_front_of_own (request ∷ order) new none =
     step (request.line == new.line) (request.hart == new.hart) refl none (request_of_in_front_of_own order new)
   where
-    step : (on_line own : Bool) → (request.hart == new.hart) ≡ own → cond own (Some request) (request_of order new.hart) ≡ None
+    step : (on_line own : Bool) → (request.hart == new.hart) ≡ own →
+        cond own (Some request) (request_of order new.hart) ≡ None
         → (request_of order new.hart ≡ None → request_of (in_front_of order new) new.hart ≡ Some new)
         → request_of (cond on_line (new ∷ request ∷ order) (request ∷ in_front_of order new)) new.hart ≡ Some new
     step true own is_own none rest =
@@ -79,7 +85,8 @@ pub request_of_removed_own : (order : List Request) (hart : ℕ) → request_of 
 request_of_removed_own order hart =
     request_of_find (removed order hart) hart
     ∙ ap (find (λ request. request.hart == hart)) (removed_filter order hart)
-    ∙ find_of_filter_gone (λ request. request.hart == hart) (λ request. not (request.hart == hart)) (λ request own. ap not own) order
+    ∙ find_of_filter_gone (λ request. request.hart == hart) (λ request. not (request.hart == hart))
+    (λ request own. ap not own) order
 
 pub request_of_removed_other : (order : List Request) (gone hart : ℕ) → gone ≢ hart
     → request_of (removed order gone) hart ≡ request_of order hart
@@ -109,12 +116,14 @@ first_of_appended_other order new line other =
     ∙ found_appended_other (λ request. request.line == line) order new (other_test new.line line other)
     ∙ sym (first_of_find order line)
 
-pub first_of_in_front_of_own : (order : List Request) (new : Request) → first_of (in_front_of order new) new.line ≡ Some new
+pub first_of_in_front_of_own : (order : List Request) (new : Request) →
+    first_of (in_front_of order new) new.line ≡ Some new
 first_of_in_front_of_own [] new = ap (λ test. cond test (Some new) None) (own_test new.line)
 first_of_in_front_of_own (request ∷ order) new =
     step (request.line == new.line) refl (first_of_in_front_of_own order new)
   where
-    step : (on_line : Bool) → (request.line == new.line) ≡ on_line → first_of (in_front_of order new) new.line ≡ Some new
+    step : (on_line : Bool) → (request.line == new.line) ≡ on_line →
+        first_of (in_front_of order new) new.line ≡ Some new
         → first_of (cond on_line (new ∷ request ∷ order) (request ∷ in_front_of order new)) new.line ≡ Some new
     step true is rest = ap (λ test. cond test (Some new) (first_of (request ∷ order) new.line)) (own_test new.line)
     step false is rest = ap (λ test. cond test (Some request) (first_of (in_front_of order new) new.line)) is ∙ rest
@@ -136,7 +145,8 @@ pub tail_of_appended_other : (order : List Request) (new : Request) (line : ℕ)
     → tail_of (appended order new) line ≡ tail_of order line
 tail_of_appended_other [] new line other = ap (λ test. cond test (Some new) None) (other_test new.line line other)
 tail_of_appended_other (request ∷ order) new line other =
-    ap (λ last. option_or last (cond (request.line == line) (Some request) None)) (tail_of_appended_other order new line other)
+    ap (λ last. option_or last (cond (request.line == line) (Some request) None))
+    (tail_of_appended_other order new line other)
 
 pub tail_of_in_front_of_own : (order : List Request) (new : Request)
     → tail_of (in_front_of order new) new.line ≡ option_or (tail_of order new.line) (Some new)
@@ -156,7 +166,8 @@ tail_of_in_front_of_own (request ∷ order) new = step (request.line == new.line
         (λ i. option_or (rest i) (cond (is i) (Some request) None))
         ∙ or_nothing (option_or (tail_of order new.line) (Some new))
         ∙ ap (λ found. option_or found (Some new))
-        (sym (ap (λ test. option_or (tail_of order new.line) (cond test (Some request) None)) is ∙ or_nothing (tail_of order new.line)))
+        (sym (ap (λ test. option_or (tail_of order new.line) (cond test (Some request) None)) is
+        ∙ or_nothing (tail_of order new.line)))
 
 pub tail_of_in_front_of_other : (order : List Request) (new : Request) (line : ℕ) → new.line ≢ line
     → tail_of (in_front_of order new) line ≡ tail_of order line
@@ -165,8 +176,10 @@ tail_of_in_front_of_other (request ∷ order) new line other =
     step (request.line == new.line) (tail_of_in_front_of_other order new line other)
   where
     step : (on_line : Bool) → tail_of (in_front_of order new) line ≡ tail_of order line
-        → tail_of (cond on_line (new ∷ request ∷ order) (request ∷ in_front_of order new)) line ≡ tail_of (request ∷ order) line
+        → tail_of (cond on_line (new ∷ request ∷ order) (request ∷ in_front_of order new)) line
+        ≡ tail_of (request ∷ order) line
     step true rest =
-        ap (λ test. option_or (tail_of (request ∷ order) line) (cond test (Some new) None)) (other_test new.line line other)
+        ap (λ test. option_or (tail_of (request ∷ order) line) (cond test (Some new) None))
+        (other_test new.line line other)
         ∙ or_nothing (tail_of (request ∷ order) line)
     step false rest = ap (λ last. option_or last (cond (request.line == line) (Some request) None)) rest

@@ -1,5 +1,6 @@
 -- At most one request of each hart, and the look-ups in the order after each call.
-use Rattle.std.proofs.Common.{◌≡◌, ℕ, ◌+◌, ◌≤◌, ◌==◌, Bool, true, false, cond, List, [], ◌∷◌, Some, None, refl, ap, arith}
+use Rattle.std.proofs.Common.{◌≡◌, ℕ, ◌+◌, ◌≤◌, ◌==◌, Bool, true, false, cond, List, [], ◌∷◌, Some, None, refl, ap}
+use Rattle.std.proofs.Common.{arith}
 use Rattle.std.specs.List.{count_by}
 use Rattle.std.proofs.lemmas.Bool.Decides.{nat_tests}
 use Rattle.std.proofs.lemmas.List.Sums.{sum_by-cons, sum_by_push}
@@ -29,7 +30,8 @@ absent_by_count [] hart none = refl
 absent_by_count (request ∷ order) hart none =
     step (request.hart == hart) (rw count_of_cons at none) (absent_by_count order hart)
   where
-    step : (own : Bool) → cond own 1 0 + count_of order hart ≡ 0 → (count_of order hart ≡ 0 → request_of order hart ≡ None)
+    step : (own : Bool) → cond own 1 0 + count_of order hart ≡ 0 →
+        (count_of order hart ≡ 0 → request_of order hart ≡ None)
         → cond own (Some request) (request_of order hart) ≡ None
     step true none rest = absurd (omega arith)
     step false none rest = rest (omega arith)
@@ -61,7 +63,8 @@ count_of_in_front_of (request ∷ order) new hart =
     step (request.line == new.line) (count_of_in_front_of order new hart)
   where
     step : (same : Bool) → count_of (in_front_of order new) hart ≡ count_of (new ∷ order) hart
-        → count_of (cond same (new ∷ request ∷ order) (request ∷ in_front_of order new)) hart ≡ count_of (new ∷ request ∷ order) hart
+        → count_of (cond same (new ∷ request ∷ order) (request ∷ in_front_of order new)) hart
+        ≡ count_of (new ∷ request ∷ order) hart
     step true rest = refl
     step false rest =
         omega (
@@ -92,7 +95,8 @@ count_of_removed (request ∷ order) gone hart =
     step : (own : Bool) → count_of (removed order gone) hart ≤ count_of order hart
         → count_of (cond own (removed order gone) (request ∷ removed order gone)) hart ≤ count_of (request ∷ order) hart
     step true rest = omega (arith, rest, count_of_cons request order hart)
-    step false rest = omega (arith, rest, count_of_cons request order hart, count_of_cons request (removed order gone) hart)
+    step false rest =
+        omega (arith, rest, count_of_cons request order hart, count_of_cons request (removed order gone) hart)
 
 pub one_each_removed : (order : List Request) (gone : ℕ) → IsOneEach order → IsOneEach (removed order gone)
 one_each_removed order gone once hart = omega (arith, count_of_removed order gone hart, once hart)
@@ -109,14 +113,17 @@ removed_absent (request ∷ order) hart none = step (request.hart == hart) none 
     step false none rest = ap (λ l. request ∷ l) (rest none)
 
 -- the requests of one line
-pub count_of_queue_of : (order : List Request) (line hart : ℕ) → count_of (queue_of order line) hart ≤ count_of order hart
+pub count_of_queue_of : (order : List Request) (line hart : ℕ) →
+    count_of (queue_of order line) hart ≤ count_of order hart
 count_of_queue_of [] line hart = omega arith
 count_of_queue_of (request ∷ order) line hart =
     step (request.line == line) (count_of_queue_of order line hart)
   where
     step : (on_line : Bool) → count_of (queue_of order line) hart ≤ count_of order hart
-        → count_of (cond on_line (request ∷ queue_of order line) (queue_of order line)) hart ≤ count_of (request ∷ order) hart
-    step true rest = omega (arith, rest, count_of_cons request order hart, count_of_cons request (queue_of order line) hart)
+        → count_of (cond on_line (request ∷ queue_of order line) (queue_of order line)) hart
+        ≤ count_of (request ∷ order) hart
+    step true rest =
+        omega (arith, rest, count_of_cons request order hart, count_of_cons request (queue_of order line) hart)
     step false rest = omega (arith, rest, count_of_cons request order hart)
 
 pub one_each_queue_of : (order : List Request) (line : ℕ) → IsOneEach order → IsOneEach (queue_of order line)

@@ -1,14 +1,17 @@
 -- The requests of a line after each call, and which requests the look-ups find.
-use Rattle.std.proofs.Common.{◌≡◌, ◌≢◌, ℕ, ◌==◌, not, Bool, true, false, cond, List, [], ◌∷◌, ◌++◌, Option, Some, None, refl, ap, sym, ◌∙◌}
+use Rattle.std.proofs.Common.{◌≡◌, ◌≢◌, ℕ, ◌==◌, not, Bool, true, false, cond, List, [], ◌∷◌, ◌++◌, Option, Some, None}
+use Rattle.std.proofs.Common.{refl, ap, sym, ◌∙◌}
 use Rattle.std.proofs.Common.{append-nil, reverse, subst, arith}
 use Rattle.std.specs.List.{find, filter}
 use Rattle.std.specs.Option.{option_or}
 use Rattle.std.proofs.lemmas.List.Elements.{filter-append}
 use Rattle.el_base.proofs.Laws.ListLaws.{find_of_filter_kept, filter_of_filter, find_passes}
 use Rattle.el_base.proofs.Laws.Tests.{number_of_test, other_test, own_test}
-use Rattle.bus_order.specs.Order.{Request, first_of, tail_of, request_of, appended, in_front_of, removed, queue_of, IsOneEach}
+use Rattle.bus_order.specs.Order.{Request, first_of, tail_of, request_of, appended, in_front_of, removed, queue_of}
+use Rattle.bus_order.specs.Order.{IsOneEach}
 use Rattle.bus_order.proofs.Laws.LookUps.{or_nothing}
-use Rattle.bus_order.proofs.Laws.Orders.{count_of_absent, count_of_queue_of, absent_by_count, one_each_rest, one_each_queue_of, alone_in_front, removed_absent}
+use Rattle.bus_order.proofs.Laws.Orders.{count_of_absent, count_of_queue_of, absent_by_count, one_each_rest}
+use Rattle.bus_order.proofs.Laws.Orders.{one_each_queue_of, alone_in_front, removed_absent}
 use Rattle.bus_order.proofs.Words.{first_of_find, tail_of_find, request_of_find, queue_of_filter, removed_filter}
 
 -- a hart's request that stands in front, or behind another hart's
@@ -72,13 +75,15 @@ queue_of_in_front_of_other (request ∷ order) new line other =
     step (request.line == new.line) (queue_of_in_front_of_other order new line other)
   where
     step : (on_line : Bool) → queue_of (in_front_of order new) line ≡ queue_of order line
-        → queue_of (cond on_line (new ∷ request ∷ order) (request ∷ in_front_of order new)) line ≡ queue_of (request ∷ order) line
+        → queue_of (cond on_line (new ∷ request ∷ order) (request ∷ in_front_of order new)) line
+        ≡ queue_of (request ∷ order) line
     step true rest =
         let queue : List Request = queue_of (request ∷ order) line in
         ap (λ test. cond test (new ∷ queue) queue) (other_test new.line line other)
     step false rest = ap (λ queue. cond (request.line == line) (request ∷ queue) queue) rest
 
-pub queue_of_removed : (order : List Request) (hart line : ℕ) → queue_of (removed order hart) line ≡ removed (queue_of order line) hart
+pub queue_of_removed : (order : List Request) (hart line : ℕ) →
+    queue_of (removed order hart) line ≡ removed (queue_of order line) hart
 queue_of_removed order hart line =
     let on_line : Request → Bool = λ request. request.line == line in
     let of_another : Request → Bool = λ request. not (request.hart == hart) in
@@ -121,7 +126,8 @@ request_of_queue_of_other (request ∷ order) line hart found once is other =
     step true test is alone rest =
         let same : request ≡ found = cc in
         let hart_is : request.hart ≡ hart = number_of_test request.hart hart test in
-        let line_is : (request.line == line) ≡ false = other_test request.line line (λ on_line. other (ap (λ r. r.line) (sym same) ∙ on_line)) in
+        let line_is : (request.line == line) ≡ false =
+        other_test request.line line (λ on_line. other (ap (λ r. r.line) (sym same) ∙ on_line)) in
         ap (λ test. request_of (cond test (request ∷ queue_of order line) (queue_of order line)) hart) line_is
         ∙ ap (request_of (queue_of order line)) (sym hart_is) ∙ alone
     step false test is alone rest = behind (request.line == line) (rest is)
@@ -133,7 +139,8 @@ request_of_queue_of_other (request ∷ order) line hart found once is other =
 
 -- a line on which the hart has no request keeps its requests
 pub queue_of_removed_other : (order : List Request) (gone line : ℕ) (request : Request) → IsOneEach order
-    → request_of order gone ≡ Some request → request.line ≢ line → queue_of (removed order gone) line ≡ queue_of order line
+    → request_of order gone ≡ Some request → request.line ≢ line →
+    queue_of (removed order gone) line ≡ queue_of order line
 queue_of_removed_other order gone line request once is other =
     queue_of_removed order gone line
     ∙ removed_absent (queue_of order line) gone (request_of_queue_of_other order line gone request once is other)
@@ -159,31 +166,36 @@ tail_of_queue_of (request ∷ order) line = step (request.line == line) refl (ta
 
 -- so the first and the last request of another line stay
 pub first_of_removed_other : (order : List Request) (gone line : ℕ) (request : Request) → IsOneEach order
-    → request_of order gone ≡ Some request → request.line ≢ line → first_of (removed order gone) line ≡ first_of order line
+    → request_of order gone ≡ Some request → request.line ≢ line →
+    first_of (removed order gone) line ≡ first_of order line
 first_of_removed_other order gone line request once is other =
     sym (first_of_queue_of (removed order gone) line)
     ∙ ap (λ queue. first_of queue line) (queue_of_removed_other order gone line request once is other)
     ∙ first_of_queue_of order line
 
 pub tail_of_removed_other : (order : List Request) (gone line : ℕ) (request : Request) → IsOneEach order
-    → request_of order gone ≡ Some request → request.line ≢ line → tail_of (removed order gone) line ≡ tail_of order line
+    → request_of order gone ≡ Some request → request.line ≢ line →
+    tail_of (removed order gone) line ≡ tail_of order line
 tail_of_removed_other order gone line request once is other =
     sym (tail_of_queue_of (removed order gone) line)
     ∙ ap (λ queue. tail_of queue line) (queue_of_removed_other order gone line request once is other)
     ∙ tail_of_queue_of order line
 
 -- a request that was found is of the hart, or on the line, that it was looked for
-pub hart_of_request_of : (order : List Request) (hart : ℕ) (found : Request) → request_of order hart ≡ Some found → found.hart ≡ hart
+pub hart_of_request_of : (order : List Request) (hart : ℕ) (found : Request) → request_of order hart ≡ Some found →
+    found.hart ≡ hart
 hart_of_request_of order hart found is =
     number_of_test found.hart hart
     (find_passes (λ request. request.hart == hart) order found (sym (request_of_find order hart) ∙ is))
 
-pub line_of_first_of : (order : List Request) (line : ℕ) (found : Request) → first_of order line ≡ Some found → found.line ≡ line
+pub line_of_first_of : (order : List Request) (line : ℕ) (found : Request) → first_of order line ≡ Some found →
+    found.line ≡ line
 line_of_first_of order line found is =
     number_of_test found.line line
     (find_passes (λ request. request.line == line) order found (sym (first_of_find order line) ∙ is))
 
-pub line_of_tail_of : (order : List Request) (line : ℕ) (found : Request) → tail_of order line ≡ Some found → found.line ≡ line
+pub line_of_tail_of : (order : List Request) (line : ℕ) (found : Request) → tail_of order line ≡ Some found →
+    found.line ≡ line
 line_of_tail_of order line found is =
     number_of_test found.line line
     (find_passes (λ request. request.line == line) (reverse order) found (sym (tail_of_find order line) ∙ is))
@@ -197,7 +209,8 @@ request_of_first_of (request ∷ order) line found once is =
     (request_of_first_of order line found (one_each_rest request order once))
   where
     step : (on_line : Bool) → cond on_line (Some request) (first_of order line) ≡ Some found
-        → request_of order request.hart ≡ None → (first_of order line ≡ Some found → request_of order found.hart ≡ Some found)
+        → request_of order request.hart ≡ None →
+        (first_of order line ≡ Some found → request_of order found.hart ≡ Some found)
         → request_of (request ∷ order) found.hart ≡ Some found
     step true is alone rest = let same : request ≡ found = cc in found_in_front request order found same
     step false is alone rest = found_behind request order found alone (rest is)

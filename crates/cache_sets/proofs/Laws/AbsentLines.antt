@@ -13,7 +13,8 @@ no_copy cached line absent =
     (none_from (way_of cached.residency line) absent)
 
 -- so a cache is what it is after either
-pub stays_without : (cached : Cached) (line : ℕ) → is_resident cached.residency line ≡ false → IsWithout cached cached line
+pub stays_without : (cached : Cached) (line : ℕ) → is_resident cached.residency line ≡ false →
+    IsWithout cached cached line
 stays_without cached line absent = record {
   ways = refl;
   residency = sym (without_absent cached.residency line absent);
@@ -26,6 +27,8 @@ pub stays_lettered : (cached : Cached) (line : ℕ) (letter : Letter) → is_res
 stays_lettered cached line letter absent = record {
   ways = refl;
   residency = sym (lettered_absent cached.residency line letter absent);
-  here = no_copy cached line absent ∙ sym (ap (λ copy. option_map (copy_with_letter letter) copy) (no_copy cached line absent));
+  here =
+      no_copy cached line absent
+      ∙ sym (ap (λ copy. option_map (copy_with_letter letter) copy) (no_copy cached line absent));
   others = λ l other. refl;
 }

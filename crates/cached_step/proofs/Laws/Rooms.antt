@@ -23,9 +23,11 @@ not_absent same = cc
 well_formed-access : (ways : ℕ) (cache : List (List Way)) (line : ℕ) (need : Need) → IsWellFormed ways cache →
     IsWellFormed ways (after_access cache line need)
 well_formed-access ways cache line Read well = well_formed-touched ways cache line well
-well_formed-access ways cache line Write well = well_formed-lettered ways _ line M not_absent (well_formed-touched ways cache line well)
+well_formed-access ways cache line Write well =
+    well_formed-lettered ways _ line M not_absent (well_formed-touched ways cache line well)
 
-well_formed-touch : (ways : ℕ) (cache : List (List Way)) (touch : Option Touch) → IsWellFormed ways cache → IsWellFormed ways (after_touch cache touch)
+well_formed-touch : (ways : ℕ) (cache : List (List Way)) (touch : Option Touch) → IsWellFormed ways cache →
+    IsWellFormed ways (after_touch cache touch)
 well_formed-touch ways cache None well = well
 well_formed-touch ways cache (Some touch) well = well_formed-access ways cache touch.line touch.need well
 
@@ -40,8 +42,8 @@ marks-touch : (ways : ℕ) (cache : List (List Way)) (touch : Option Touch) → 
 marks-touch ways cache None well = refl
 marks-touch ways cache (Some touch) well = marks-access ways cache touch.line touch.need well
 
-pub stays_in_form : (old new : Cached) (action : Action) (store : Option Store) → IsWellFormed old.ways old.residency → HasRun old new action store →
-    StaysInForm old new
+pub stays_in_form : (old new : Cached) (action : Action) (store : Option Store) → IsWellFormed old.ways old.residency →
+    HasRun old new action store → StaysInForm old new
 stays_in_form old new action store well run = record {
   well_formed =
       subst (λ ways. IsWellFormed ways new.residency) (sym run.ways)

@@ -1,5 +1,6 @@
 -- The tally of a history, one entry after another.
-use Rattle.std.proofs.Common.{◌≡◌, ℕ, ◌+◌, ◌*◌, ◌^◌, ◌<◌, List, [], ◌∷◌, ◌++◌, IsTrue, length, take, get_or, refl, ap, sym, ◌∙◌, arith}
+use Rattle.std.proofs.Common.{◌≡◌, ℕ, ◌+◌, ◌*◌, ◌^◌, ◌<◌, List, [], ◌∷◌, ◌++◌, IsTrue, length, take, get_or, refl, ap}
+use Rattle.std.proofs.Common.{sym, ◌∙◌, arith}
 use Rattle.std.specs.Prelude.{Bool, nat_le, nat_lt, ◌&&◌}
 use Rattle.std.specs.List.{list_all}
 use Rattle.std.proofs.lemmas.Bool.Decides.{nat_tests}
@@ -65,7 +66,8 @@ small_fit n few (x ∷ xs) small = one_fits n few x _ _ small (small_fit n few x
 -- the tally of less than 2 ^ 32 events can take one event more
 pub sum_fits : (n : ℕ) (a b : Tally) → n + 1 < 2 ^ 32 → IsTallyOf n a → IsTallyOf 1 b → SumFits a b
 unfolding plus IsTallyOf SumFits
-sum_fits n a b few first second = small_fit (n + 1) few (sums (numbers a) (numbers b)) (sums_small n (numbers a) (numbers b) first second)
+sum_fits n a b few first second =
+    small_fit (n + 1) few (sums (numbers a) (numbers b)) (sums_small n (numbers a) (numbers b) first second)
 
 -- what a loop over the entries needs
 pub ruleset tally_laws = (no_tally, tally_more, none_small, plus_small, sum_fits)

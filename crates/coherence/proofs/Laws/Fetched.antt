@@ -1,5 +1,6 @@
 -- after a fetch caches and main memory tell of each line what they told
-use Rattle.std.proofs.Common.{◌≡◌, ◌≢◌, ◌∙◌, ◌⊎◌, ◌<◌, ◌≤◌, ◌-◌, arith, ℕ, Bool, true, false, List, [], length, Option, None, Some, is_some}
+use Rattle.std.proofs.Common.{◌≡◌, ◌≢◌, ◌∙◌, ◌⊎◌, ◌<◌, ◌≤◌, ◌-◌, arith, ℕ, Bool, true, false, List, [], length, Option}
+use Rattle.std.proofs.Common.{None, Some, is_some}
 use Rattle.std.proofs.Common.{option_map, ap, refl, sym, subst, inl, inr, if◌then◌else◌}
 use Rattle.std.specs.Prelude.{slice_index_or, slice_set}
 use Rattle.std.proofs.lemmas.Bool.{cases_eq}
@@ -11,12 +12,14 @@ use Rattle.cache_sets.specs.Calls.{IsFilledWith}
 use Rattle.residency.specs.Residency.{Way}
 use Rattle.cache_sets.specs.Slotted.{IsLent, Slotted, lent}
 use Rattle.cache_sets.specs.declared.evicted.Evicted.{Evicted}
-use Rattle.coherence.specs.Caches.{AreCoherent, GivesUp, IsInMemory, OthersGiveUp, behind_of, cache_at, copies_of, others_have}
+use Rattle.coherence.specs.Caches.{AreCoherent, GivesUp, IsInMemory, OthersGiveUp, behind_of, cache_at, copies_of}
+use Rattle.coherence.specs.Caches.{others_have}
 use Rattle.coherence.specs.Lent.{IsReplacedIn, no_slotted, slotted_at}
 use Rattle.coherence.specs.Line.{Coherent, IsFound}
 use Rattle.coherence.specs.Writing.{GoneIsInMemory}
 use Rattle.coherence.specs.Served.{IsFetched, lines_after, victim_of, with_copy_back, with_line_back, written_back}
-use Rattle.coherence.proofs.FetchLaws.{Fetch, fetched_aside, fetched_own, fetched_rest, given_up_at, left_other, line_fetched, line_left, other_new, own_new}
+use Rattle.coherence.proofs.FetchLaws.{Fetch, fetched_aside, fetched_own, fetched_rest, given_up_at, left_other}
+use Rattle.coherence.proofs.FetchLaws.{line_fetched, line_left, other_new, own_new}
 use Rattle.coherence.proofs.Laws.LineLaws.{same_line}
 use Rattle.coherence.proofs.Laws.Owners.{copy_is}
 use Rattle.el_base.specs.declared.outcomes.Need.{Need}
@@ -32,7 +35,8 @@ pub length-written_back : (first : ℕ) (lines : List (List ℕ)) (evicted : Opt
 length-written_back first lines None = refl
 length-written_back first lines (Some gone) = by (is_dirty gone.letter)
   where
-    by : (dirty : Bool) → length (if dirty then slice_set lines (gone.line.number - first) gone.bytes else lines) ≡ length lines
+    by : (dirty : Bool) →
+        length (if dirty then slice_set lines (gone.line.number - first) gone.bytes else lines) ≡ length lines
     by true = length-set lines (gone.line.number - first) gone.bytes
     by false = refl
 
@@ -42,7 +46,8 @@ behind_here : (first : ℕ) (lines : List (List ℕ)) (gone : Evicted) → IsInM
 behind_here first lines gone there = by (is_dirty gone.letter)
   where
     by : (dirty : Bool) →
-        behind_of first (if dirty then slice_set lines (gone.line.number - first) gone.bytes else lines) gone.line.number
+        behind_of first (if dirty then slice_set lines (gone.line.number - first) gone.bytes else lines)
+        gone.line.number
         ≡ (if dirty then gone.bytes else behind_of first lines gone.line.number)
     by true = get_or-set_same lines (gone.line.number - first) gone.bytes [] (omega (arith, there.from, there.below))
     by false = refl
@@ -54,23 +59,26 @@ behind_rest first l lines None from other = refl
 behind_rest first l lines (Some gone) from other = by (is_dirty gone.letter) (other gone refl)
   where
     by : (dirty : Bool) → (first ≤ gone.line.number) × (l ≢ gone.line.number) →
-        behind_of first (if dirty then slice_set lines (gone.line.number - first) gone.bytes else lines) l ≡ behind_of first lines l
+        behind_of first (if dirty then slice_set lines (gone.line.number - first) gone.bytes else lines) l
+        ≡ behind_of first lines l
     by true apart =
         get_or-set_other lines (gone.line.number - first) (l - first) gone.bytes []
         (λ same. apart.1 (omega (arith, same, from, apart.0)))
     by false apart = refl
 
 -- a line is there where a copy is
-pub copy_resident : (cached : Cached) (line : ℕ) (copy : Copy) → copy_in cached line ≡ Some copy → is_resident cached.residency line ≡ true
+pub copy_resident : (cached : Cached) (line : ℕ) (copy : Copy) → copy_in cached line ≡ Some copy →
+    is_resident cached.residency line ≡ true
 copy_resident cached line copy there = by (way_of cached.residency line) there
   where
-    by : (way : Option Way) → option_map {U = Copy} (λ w. record { letter = w.letter; bytes = bytes_of cached line }) way ≡ Some copy →
-        is_some way ≡ true
+    by : (way : Option Way) → option_map {U = Copy} (λ w. record { letter = w.letter; bytes = bytes_of cached line })
+        way ≡ Some copy → is_some way ≡ true
     by None is = none_some is
     by (Some way) is = refl
 
 -- a line that left was in memory
-pub gone_inside : (need : Need) (h line first : ℕ) (lines : List (List ℕ)) (old mid : List Cached) (cache : Cached) (bytes : List ℕ)
+pub gone_inside : (need : Need) (h line first : ℕ) (lines : List (List ℕ)) (old mid : List Cached) (cache : Cached)
+    (bytes : List ℕ)
     (told : ℕ → List ℕ) (evicted : Option Evicted) (gone : Evicted) → Fetch need h line old mid cache bytes evicted →
     AreCoherent told first lines old → evicted ≡ Some gone → IsInMemory first (length lines) gone.line.number
 gone_inside need h line first lines old mid cache bytes told evicted gone fetch coherent is =
@@ -79,7 +87,8 @@ gone_inside need h line first lines old mid cache bytes told evicted gone fetch 
     (sym (ap (λ c. copy_in c gone.line.number) fetch.gave.own) ∙ fetch.filled.left gone is))
 
 -- each line tells what it told
-each_fetched : (need : Need) (h line first : ℕ) (lines : List (List ℕ)) (old mid : List Cached) (cache : Cached) (bytes : List ℕ)
+each_fetched : (need : Need) (h line first : ℕ) (lines : List (List ℕ)) (old mid : List Cached) (cache : Cached)
+    (bytes : List ℕ)
     (told : ℕ → List ℕ) (evicted : Option Evicted) → Fetch need h line old mid cache bytes evicted →
     IsFound (copies_of old line) (behind_of first lines line) bytes → AreCoherent told first lines old →
     (l : ℕ) → IsInMemory first (length lines) l →
@@ -90,7 +99,8 @@ each_fetched need h line first lines old mid cache bytes told evicted fetch foun
       | inr other ↦ apart evicted refl other
     ]
   where
-    here : l ≡ line → Coherent (told l) (copies_of (slice_set mid h cache) l) (behind_of first (written_back first lines evicted) l)
+    here : l ≡ line → Coherent (told l) (copies_of (slice_set mid h cache) l)
+        (behind_of first (written_back first lines evicted) l)
     here same =
         let in_memory : IsInMemory first (length lines) line = subst (IsInMemory first (length lines)) same there in
         rw (
@@ -107,19 +117,26 @@ each_fetched need h line first lines old mid cache bytes told evicted fetch foun
     rest : l ≢ line → ((gone : Evicted) → evicted ≡ Some gone → l ≢ gone.line.number) →
         Coherent (told l) (copies_of (slice_set mid h cache) l) (behind_of first (written_back first lines evicted) l)
     rest other stays =
-        same_line (told l) (copies_of old l) (copies_of (slice_set mid h cache) l) (behind_of first lines l) _ (coherent.each l there)
+        same_line (told l) (copies_of old l) (copies_of (slice_set mid h cache) l) (behind_of first lines l) _
+        (coherent.each l there)
         (λ g. fetched_rest need h line l g old mid cache bytes evicted fetch other stays)
         (behind_rest first l lines evicted there.from
-        (λ gone is. ((gone_inside need h line first lines old mid cache bytes told evicted gone fetch coherent is).from, stays gone is)))
+        (λ gone is. (
+          (gone_inside need h line first lines old mid cache bytes told evicted gone fetch coherent is).from,
+          stays gone is,
+        )))
 
     left : (gone : Evicted) → evicted ≡ Some gone → l ≡ gone.line.number →
         Coherent (told l) (copies_of (slice_set mid h cache) l) (behind_of first (written_back first lines evicted) l)
     left gone is same =
         let inside = gone_inside need h line first lines old mid cache bytes told evicted gone fetch coherent is in
-        subst (λ k. Coherent (told k) (copies_of (slice_set mid h cache) k) (behind_of first (written_back first lines evicted) k)) (sym same)
-        (line_left need h line old mid cache bytes (told gone.line.number) (behind_of first lines gone.line.number) _ evicted gone fetch is
+        subst (λ k. Coherent (told k) (copies_of (slice_set mid h cache) k)
+        (behind_of first (written_back first lines evicted) k)) (sym same)
+        (line_left need h line old mid cache bytes (told gone.line.number) (behind_of first lines gone.line.number) _
+        evicted gone fetch is
         (left_other need h line old mid cache bytes evicted gone fetch is)
-        (ap (λ e. behind_of first (written_back first lines e) gone.line.number) is ∙ behind_here first lines gone inside)
+        (ap (λ e. behind_of first (written_back first lines e) gone.line.number) is
+        ∙ behind_here first lines gone inside)
         (coherent.each gone.line.number inside))
 
     apart : (found : Option Evicted) → evicted ≡ found → l ≢ line →
@@ -133,10 +150,11 @@ each_fetched need h line first lines old mid cache bytes told evicted fetch foun
         ]
 
 -- a line that a cache has is in memory
-inside_fetched : (need : Need) (h line first : ℕ) (lines : List (List ℕ)) (old mid : List Cached) (cache : Cached) (bytes : List ℕ)
-    (told : ℕ → List ℕ) (evicted : Option Evicted) → Fetch need h line old mid cache bytes evicted → AreCoherent told first lines old →
-    IsInMemory first (length lines) line →
-    (g l : ℕ) → is_resident (cache_at (slice_set mid h cache) g).residency l ≡ true → IsInMemory first (length lines) l
+inside_fetched : (need : Need) (h line first : ℕ) (lines : List (List ℕ)) (old mid : List Cached) (cache : Cached)
+    (bytes : List ℕ)
+    (told : ℕ → List ℕ) (evicted : Option Evicted) → Fetch need h line old mid cache bytes evicted →
+    AreCoherent told first lines old → IsInMemory first (length lines) line → (g l : ℕ) →
+    is_resident (cache_at (slice_set mid h cache) g).residency l ≡ true → IsInMemory first (length lines) l
 inside_fetched need h line first lines old mid cache bytes told evicted fetch coherent there g l resident =
     elim (cases_eq l line) [
       | inl same ↦ subst (IsInMemory first (length lines)) (sym same) there
@@ -152,7 +170,8 @@ inside_fetched need h line first lines old mid cache bytes told evicted fetch co
         (copy_resident (cache_at old g) l _ (sym same ∙ copy_is (cache_at (slice_set mid h cache) g) l resident))
 
     gone_or_not : (found : Option Evicted) → evicted ≡ found →
-        ((gone : Evicted) → evicted ≡ Some gone → l ≢ gone.line.number) ⊎ ((gone : Evicted) × (evicted ≡ Some gone) × (l ≡ gone.line.number))
+        ((gone : Evicted) → evicted ≡ Some gone → l ≢ gone.line.number)
+        ⊎ ((gone : Evicted) × (evicted ≡ Some gone) × (l ≡ gone.line.number))
     gone_or_not None is = inl (λ gone some. none_some (sym is ∙ some))
     gone_or_not (Some gone) is =
         elim (cases_eq l gone.line.number) [
@@ -161,7 +180,8 @@ inside_fetched need h line first lines old mid cache bytes told evicted fetch co
         ]
 
     mine : g ≡ h → ((gone : Evicted) → evicted ≡ Some gone → l ≢ gone.line.number)
-        ⊎ ((gone : Evicted) × (evicted ≡ Some gone) × (l ≡ gone.line.number)) → l ≢ line → IsInMemory first (length lines) l
+        ⊎ ((gone : Evicted) × (evicted ≡ Some gone) × (l ≡ gone.line.number)) → l ≢ line →
+        IsInMemory first (length lines) l
     mine own (inl stays) other = was (fetched_rest need h line l g old mid cache bytes evicted fetch other stays)
     mine own (inr (gone, is, same)) other =
         none_some
@@ -171,7 +191,8 @@ inside_fetched need h line first lines old mid cache bytes told evicted fetch co
         ∙ (ap (λ k. copy_in (cache_at (slice_set mid h cache) g) k) (sym same)
         ∙ copy_is (cache_at (slice_set mid h cache) g) l resident))))
 
-pub coherent_fetched : (need : Need) (h line first : ℕ) (lines : List (List ℕ)) (old mid : List Cached) (cache : Cached) (bytes : List ℕ)
+pub coherent_fetched : (need : Need) (h line first : ℕ) (lines : List (List ℕ)) (old mid : List Cached) (cache : Cached)
+    (bytes : List ℕ)
     (told : ℕ → List ℕ) (evicted : Option Evicted) → Fetch need h line old mid cache bytes evicted →
     IsFound (copies_of old line) (behind_of first lines line) bytes → IsInMemory first (length lines) line →
     AreCoherent told first lines old → AreCoherent told first (written_back first lines evicted) (slice_set mid h cache)
@@ -211,7 +232,8 @@ back_as_it_was cached first lines (Some gone) left =
     ap (with_copy_back first lines gone.line.number) (sym (left gone refl))
 
 -- main memory after a fetch is the old one, but for the line that left
-left_behind : (need : Need) (h line first : ℕ) (lines : List (List ℕ)) (old mid : List Cached) (cache : Cached) (bytes : List ℕ)
+left_behind : (need : Need) (h line first : ℕ) (lines : List (List ℕ)) (old mid : List Cached) (cache : Cached)
+    (bytes : List ℕ)
     (evicted : Option Evicted) → Fetch need h line old mid cache bytes evicted →
     written_back first lines evicted ≡ lines_after h line (record { first = first; lines = lines; caches = old })
 unfolding lines_after
@@ -225,11 +247,13 @@ left_behind need h line first lines old mid cache bytes evicted fetch =
     ∙ ap (with_line_back cached first lines) left_is
 
 -- a fetch by its parts
-pub fetched_by_parts : (need : Need) (h line first : ℕ) (lines after : List (List ℕ)) (old mid new : List Cached) (cache : Cached)
+pub fetched_by_parts : (need : Need) (h line first : ℕ) (lines after : List (List ℕ)) (old mid new : List Cached)
+    (cache : Cached)
     (bytes : List ℕ) (evicted : Option Evicted) → Fetch need h line old mid cache bytes evicted →
     IsFound (copies_of old line) (behind_of first lines line) bytes → IsInMemory first (length lines) line →
     after ≡ written_back first lines evicted → new ≡ slice_set mid h cache →
-    IsFetched need h line (record { first = first; lines = lines; caches = old }) (record { first = first; lines = after; caches = new })
+    IsFetched need h line (record { first = first; lines = lines; caches = old })
+    (record { first = first; lines = after; caches = new })
 fetched_by_parts need h line first lines after old mid new cache bytes evicted fetch found there after_is new_is =
     rw (after_is, new_is)
     (record {
@@ -241,13 +265,15 @@ fetched_by_parts need h line first lines after old mid new cache bytes evicted f
             coherent_fetched need h line first lines old mid cache bytes told evicted fetch found there coherent;
       };
       here =
-          copy_resident (cache_at (slice_set mid h cache) h) line _ (fetched_own need h line old mid cache bytes evicted fetch);
+          copy_resident (cache_at (slice_set mid h cache) h) line _
+          (fetched_own need h line old mid cache bytes evicted fetch);
       ways = λ g. elim (cases_eq g h) [
         | inl own ↦ rw own (ap (λ c. c.ways) (own_new need h line old mid cache bytes evicted fetch)
             ∙ (fetch.filled.ways ∙ ap (λ c. c.ways) fetch.gave.own))
         | inr other ↦
             ap (λ c. c.ways) (other_new h g mid cache other)
-            ∙ gives_ways need (cache_at old g) (cache_at mid g) line (given_up_at need h line old mid fetch.gave g other)
+            ∙ gives_ways need (cache_at old g) (cache_at mid g) line
+            (given_up_at need h line old mid fetch.gave g other)
       ];
       own =
           ap (λ c. c.residency) (own_new need h line old mid cache bytes evicted fetch)
@@ -255,22 +281,25 @@ fetched_by_parts need h line first lines after old mid new cache bytes evicted f
           ∙ ap (λ c. filled_with c.ways c.residency line (filled_of need (others_have old h line))) fetch.gave.own);
       others = λ g other.
           ap (λ c. c.residency) (other_new h g mid cache other)
-          ∙ gives_residency need (cache_at old g) (cache_at mid g) line (given_up_at need h line old mid fetch.gave g other);
+          ∙ gives_residency need (cache_at old g) (cache_at mid g) line
+          (given_up_at need h line old mid fetch.gave g other);
       memory = left_behind need h line first lines old mid cache bytes evicted fetch;
     })
 
 -- what a place of the list of caches gives
-pub indexed : (caches : List Slotted) (place h : ℕ) (cache : Slotted) → cache ≡ slice_index_or caches place cache → place ≡ h →
-    h < length caches → cache ≡ slotted_at caches h
+pub indexed : (caches : List Slotted) (place h : ℕ) (cache : Slotted) → cache ≡ slice_index_or caches place cache →
+    place ≡ h → h < length caches → cache ≡ slotted_at caches h
 indexed caches place h cache is same inside =
-    get_or_read_under caches place (length caches) cache no_slotted is (subst (λ n. n < length caches) (sym same) inside) refl
+    get_or_read_under caches place (length caches) cache no_slotted is
+    (subst (λ n. n < length caches) (sym same) inside) refl
     ∙ ap (slotted_at caches) same
 
 -- the cache that stands there was changed
 pub replaced_in : (Becomes : Cached → Cached → Type 0) (place h : ℕ) (caches : List Slotted) (before after : Slotted) →
     before ≡ slice_index_or caches place before → place ≡ h → h < length caches →
-    ((pool : Pooled) → Becomes (lent pool before) (lent pool after)) → ((pool : Pooled) → IsLent pool before → IsLent pool after) →
-    after.owner ≡ before.owner → IsReplacedIn Becomes h caches (slice_set caches place after)
+    ((pool : Pooled) → Becomes (lent pool before) (lent pool after)) →
+    ((pool : Pooled) → IsLent pool before → IsLent pool after) → after.owner ≡ before.owner →
+    IsReplacedIn Becomes h caches (slice_set caches place after)
 replaced_in Becomes place h caches before after is same inside becomes kept owner =
     let was = indexed caches place h before is same inside in
     record {
@@ -282,10 +311,12 @@ replaced_in Becomes place h caches before after is same inside becomes kept owne
     }
 
 -- a line that leaves for another is in memory
-pub gone_in_memory : (need : Need) (h line first count : ℕ) (old mid : List Cached) (before cache : Cached) (letter : Letter) (bytes : List ℕ)
+pub gone_in_memory : (need : Need) (h line first count : ℕ) (old mid : List Cached) (before cache : Cached)
+    (letter : Letter) (bytes : List ℕ)
     (evicted : Option Evicted) → OthersGiveUp need h line old mid → before ≡ cache_at mid h →
     IsFilledWith before cache line letter bytes evicted →
-    ((g l : ℕ) → is_resident (cache_at old g).residency l ≡ true → IsInMemory first count l) → GoneIsInMemory first count evicted
+    ((g l : ℕ) → is_resident (cache_at old g).residency l ≡ true → IsInMemory first count l) →
+    GoneIsInMemory first count evicted
 gone_in_memory need h line first count old mid before cache letter bytes None gave was filled inside = tt
 gone_in_memory need h line first count old mid before cache letter bytes (Some gone) gave was filled inside =
     inside h gone.line.number

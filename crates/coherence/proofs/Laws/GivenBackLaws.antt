@@ -1,5 +1,6 @@
 -- a hart's cache was lent and came back: what caches and main memory tell then
-use Rattle.std.proofs.Common.{◌≡◌, ◌∙◌, ◌<◌, ◌≤◌, ℕ, true, List, length, Option, None, Some, is_some, ap, refl, sym, subst, inl, inr}
+use Rattle.std.proofs.Common.{◌≡◌, ◌∙◌, ◌<◌, ◌≤◌, ℕ, true, List, length, Option, None, Some, is_some, ap, refl, sym}
+use Rattle.std.proofs.Common.{subst, inl, inr}
 use Rattle.std.specs.Option.{option_map_or}
 use Rattle.std.specs.Prelude.{slice_set}
 use Rattle.std.proofs.lemmas.Bool.{cases_eq, cases_lt, eq-eqb, ne_eqb}
@@ -8,7 +9,8 @@ use Rattle.residency.specs.Cache.{is_resident, letter_in, letter_of, way_of}
 use Rattle.cache_sets.specs.Cached.{Cached, Copy, bytes_of, copy_in}
 use Rattle.residency.specs.Residency.{Way}
 use Rattle.coherence.specs.Caches.{behind_of, cache_at, copies_of, no_cache}
-use Rattle.coherence.specs.GivenBack.{IsCopyBack, IsGivenBack, IsStoredIn, Kept, Stored, TellsAfter, bytes_back, bytes_with, copies_with}
+use Rattle.coherence.specs.GivenBack.{IsCopyBack, IsGivenBack, IsStoredIn, Kept, Stored, TellsAfter, bytes_back}
+use Rattle.coherence.specs.GivenBack.{bytes_with, copies_with}
 use Rattle.coherence.specs.Line.{Coherent}
 use Rattle.coherence.specs.Served.{Copies, HasLine, TellsOf}
 use Rattle.coherence.proofs.FetchLaws.{other_new}
@@ -22,13 +24,14 @@ use Rattle.moesi.specs.declared.letter.Letter.TheVariants.{M}
 use Rattle.el_base.proofs.Laws.Cases.{none_some}
 
 -- the bytes of a line whose copy was kept are those that it had
-pub kept_bytes : (bytes : List ℕ) (copies : ℕ → Option Copy) (behind : List ℕ) (h : ℕ) (copy : Option Copy) → Coherent bytes copies behind →
-    copy ≡ copies h → option_map_or (λ c. c.bytes) copy bytes ≡ bytes
+pub kept_bytes : (bytes : List ℕ) (copies : ℕ → Option Copy) (behind : List ℕ) (h : ℕ) (copy : Option Copy) →
+    Coherent bytes copies behind → copy ≡ copies h → option_map_or (λ c. c.bytes) copy bytes ≡ bytes
 kept_bytes bytes copies behind h None coherent is = refl
 kept_bytes bytes copies behind h (Some copy) coherent is = coherent.same h copy (sym is)
 
 -- past the last hart no copy is written
-only_inside : (caches : List Cached) (h line : ℕ) (was : Copy) → copy_in (cache_at caches h) line ≡ Some was → h < length caches
+only_inside : (caches : List Cached) (h line : ℕ) (was : Copy) → copy_in (cache_at caches h) line ≡ Some was →
+    h < length caches
 only_inside caches h line was there =
     elim (cases_lt h (length caches)) [
       | inl inside ↦ inside
@@ -57,7 +60,8 @@ line_back h line bytes behind old cache (Stored was is before may after letter) 
     }))
 
 -- a copy that is there after the loan was there before it
-was_there : (before after : Option Copy) (copy : Copy) → IsCopyBack before after → after ≡ Some copy → (was : Copy) × (before ≡ Some was)
+was_there : (before after : Option Copy) (copy : Copy) → IsCopyBack before after → after ≡ Some copy →
+    (was : Copy) × (before ≡ Some was)
 was_there before after copy (Kept same) there = (copy, sym same ∙ there)
 was_there before after copy (Stored was is is_before may is_after letter) there = (was, is_before)
 
@@ -65,11 +69,15 @@ was_there before after copy (Stored was is is_before may is_after letter) there 
 pub tells_back : (copies : Copies) (h : ℕ) (cache : Cached) (bytes : ℕ → List ℕ) → TellsOf copies bytes →
     IsGivenBack (cache_at copies.caches h) cache → TellsOf (copies_with copies h cache) (bytes_back bytes cache)
 tells_back copies h cache bytes tells back = record {
-  each = λ line there. line_back h line (bytes line) (behind_of copies.first copies.lines line) copies.caches cache (back.each line) (tells.each line there);
+  each =
+      λ line there. line_back h line (bytes line) (behind_of copies.first copies.lines line) copies.caches cache
+      (back.each line) (tells.each line there);
   inside = λ g line resident. elim (cases_eq g h) [
     | inl own ↦
         tells.inside h line
-        (mine line (subst (λ k. is_resident (cache_at (slice_set copies.caches h cache) k).residency line ≡ true) own resident))
+        (mine line
+        (subst (λ k. is_resident (cache_at (slice_set copies.caches h cache) k).residency line ≡ true) own
+        resident))
     | inr other ↦
         tells.inside g line
         (subst (λ c. is_resident c.residency line ≡ true) (other_new h g copies.caches cache other) resident)
@@ -82,12 +90,14 @@ tells_back copies h cache bytes tells back = record {
         elim (cases_lt h (length copies.caches)) [
           | inl inside ↦
               let here : is_resident cache.residency line ≡ true =
-              subst (λ c. is_resident c.residency line ≡ true) (get_or-set_same copies.caches h cache no_cache inside) resident in
+              subst (λ c. is_resident c.residency line ≡ true)
+              (get_or-set_same copies.caches h cache no_cache inside) resident in
               let was = was_there _ _ _ (back.each line) (copy_is cache line here) in
               copy_resident (cache_at copies.caches h) line was.0 was.1
           | inr outside ↦
               subst (λ c. is_resident c.residency line ≡ true)
-              (beyond (slice_set copies.caches h cache) h (subst (λ n. n ≤ h) (sym (length-set copies.caches h cache)) outside)
+              (beyond (slice_set copies.caches h cache) h
+              (subst (λ n. n ≤ h) (sym (length-set copies.caches h cache)) outside)
               ∙ sym (beyond copies.caches h outside))
               resident
         ]
@@ -97,7 +107,8 @@ pub tells_same_bytes : (copies : Copies) (bytes told : ℕ → List ℕ) → Tel
     ((line : ℕ) → HasLine copies line → told line ≡ bytes line) → TellsOf copies told
 tells_same_bytes copies bytes told tells same = record {
   each = λ line there.
-      subst (λ b. Coherent b (copies_of copies.caches line) (behind_of copies.first copies.lines line)) (sym (same line there))
+      subst (λ b. Coherent b (copies_of copies.caches line) (behind_of copies.first copies.lines line))
+      (sym (same line there))
       (tells.each line there);
   inside = tells.inside;
 }
@@ -105,15 +116,19 @@ tells_same_bytes copies bytes told tells same = record {
 pub tells_after : (copies : Copies) (h : ℕ) (cache : Cached) (bytes told : ℕ → List ℕ) → TellsOf copies bytes →
     TellsAfter copies h cache bytes told → TellsOf (copies_with copies h cache) told
 tells_after copies h cache bytes told tells after =
-    tells_same_bytes (copies_with copies h cache) (bytes_back bytes cache) told (tells_back copies h cache bytes tells after.given_back) after.exact
+    tells_same_bytes (copies_with copies h cache) (bytes_back bytes cache) told
+    (tells_back copies h cache bytes tells after.given_back) after.exact
 
 -- the same copies, whatever became of their order and bits, tell the same
 pub tells_same_copies : (copies : Copies) (h : ℕ) (cache : Cached) (bytes : ℕ → List ℕ) → TellsOf copies bytes →
-    ((line : ℕ) → copy_in cache line ≡ copy_in (cache_at copies.caches h) line) → TellsOf (copies_with copies h cache) bytes
-tells_same_copies copies h cache bytes tells same = coherent_same_copies h copies.first copies.lines bytes copies.caches cache same tells
+    ((line : ℕ) → copy_in cache line ≡ copy_in (cache_at copies.caches h) line) →
+    TellsOf (copies_with copies h cache) bytes
+tells_same_copies copies h cache bytes tells same =
+    coherent_same_copies h copies.first copies.lines bytes copies.caches cache same tells
 
 -- a line whose letter may be written is there
-pub writable_there : (cached : Cached) (line : ℕ) → may_write (letter_of cached.residency line) ≡ true → is_resident cached.residency line ≡ true
+pub writable_there : (cached : Cached) (line : ℕ) → may_write (letter_of cached.residency line) ≡ true →
+    is_resident cached.residency line ≡ true
 writable_there cached line may = by (way_of cached.residency line) may
   where
     by : (way : Option Way) → may_write (letter_in way) ≡ true → is_some way ≡ true
@@ -132,25 +147,29 @@ stored_back old new line bytes stores = record {
   each = λ l. elim (cases_eq l line) [
     | inl same ↦
         rw same
-        (Stored (record { letter = letter_of old.residency line; bytes = bytes_of old line }) (record { letter = M; bytes = bytes })
+        (Stored (record { letter = letter_of old.residency line; bytes = bytes_of old line })
+        (record { letter = M; bytes = bytes })
         (copy_is old line (writable_there old line stores.may)) stores.may stores.here refl)
     | inr other ↦ Kept (stores.others l other)
   ];
 }
 
 -- these are its bytes, and each other line has those that it had
-stored_bytes : (copies : Copies) (h line : ℕ) (cache : Cached) (bytes : ℕ → List ℕ) (new : List ℕ) → TellsOf copies bytes →
-    IsStoredIn (cache_at copies.caches h) cache line new → (l : ℕ) → HasLine copies l → bytes_with bytes line new l ≡ bytes_back bytes cache l
+stored_bytes : (copies : Copies) (h line : ℕ) (cache : Cached) (bytes : ℕ → List ℕ) (new : List ℕ) →
+    TellsOf copies bytes → IsStoredIn (cache_at copies.caches h) cache line new → (l : ℕ) → HasLine copies l →
+    bytes_with bytes line new l ≡ bytes_back bytes cache l
 stored_bytes copies h line cache bytes new tells stores l there =
     elim (cases_eq l line) [
       | inl same ↦ rw (eq-eqb l line same, same, stores.here) refl
       | inr other ↦
           rw (ne_eqb l line other)
-          (sym (kept_bytes (bytes l) (copies_of copies.caches l) _ h (copy_in cache l) (tells.each l there) (stores.others l other)))
+          (sym (kept_bytes (bytes l) (copies_of copies.caches l) _ h (copy_in cache l) (tells.each l there)
+          (stores.others l other)))
     ]
 
-pub tells_stored : (copies : Copies) (h line : ℕ) (cache : Cached) (bytes : ℕ → List ℕ) (new : List ℕ) → TellsOf copies bytes →
-    IsStoredIn (cache_at copies.caches h) cache line new → TellsOf (copies_with copies h cache) (bytes_with bytes line new)
+pub tells_stored : (copies : Copies) (h line : ℕ) (cache : Cached) (bytes : ℕ → List ℕ) (new : List ℕ) →
+    TellsOf copies bytes → IsStoredIn (cache_at copies.caches h) cache line new →
+    TellsOf (copies_with copies h cache) (bytes_with bytes line new)
 tells_stored copies h line cache bytes new tells stores =
     tells_after copies h cache bytes (bytes_with bytes line new) tells
     (record {

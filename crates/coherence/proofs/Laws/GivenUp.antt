@@ -1,5 +1,6 @@
 -- one hart after another gives a line up
-use Rattle.std.proofs.Common.{◌≡◌, ◌≢◌, ◌∙◌, ◌<◌, ◌≤◌, ◌==◌, ◌&&◌, ◌||◌, not, Bool, ℕ, zero, suc, List, [], ◌∷◌, drop, length, arith, refl, sym}
+use Rattle.std.proofs.Common.{◌≡◌, ◌≢◌, ◌∙◌, ◌<◌, ◌≤◌, ◌==◌, ◌&&◌, ◌||◌, not, Bool, ℕ, zero, suc, List, [], ◌∷◌, drop}
+use Rattle.std.proofs.Common.{length, arith, refl, sym}
 use Rattle.std.proofs.Common.{subst, inl, inr}
 use Rattle.std.specs.Prelude.{slice_set}
 use Rattle.std.proofs.Math.Seq.{drop-cons}
@@ -18,11 +19,12 @@ pub record GivenUpBelow (need : Need) (h line number : ℕ) (old new : List Cach
   pub rest : (g : ℕ) → number ≤ g → cache_at new g ≡ cache_at old g
 
 pub none_yet : (need : Need) (h line : ℕ) (old : List Cached) → GivenUpBelow need h line 0 old old
-none_yet need h line old = record { count = refl; own = refl; done = λ g other below. absurd (omega arith); rest = λ g from. refl }
+none_yet need h line old =
+    record { count = refl; own = refl; done = λ g other below. absurd (omega arith); rest = λ g from. refl }
 
 -- the hart itself is passed over
-pub passed_over : (need : Need) (h line number : ℕ) (old new : List Cached) → number ≡ h → GivenUpBelow need h line number old new →
-    GivenUpBelow need h line (suc number) old new
+pub passed_over : (need : Need) (h line number : ℕ) (old new : List Cached) → number ≡ h →
+    GivenUpBelow need h line number old new → GivenUpBelow need h line (suc number) old new
 passed_over need h line number old new own below = record {
   count = below.count;
   own = below.own;
@@ -31,11 +33,12 @@ passed_over need h line number old new own below = record {
 }
   where
     not_last : (g : ℕ) → g ≢ h → g < suc number → g < number
-    not_last g other under = elim (cases_eq g number) [ inl same ↦ absurd (other (same ∙ own)) | inr apart ↦ omega (arith, apart) ]
+    not_last g other under =
+        elim (cases_eq g number) [ inl same ↦ absurd (other (same ∙ own)) | inr apart ↦ omega (arith, apart) ]
 
 -- another one gives it up
-pub one_more : (need : Need) (h line number : ℕ) (old new : List Cached) (cache : Cached) → number ≢ h → number < length new →
-    GivesUp need (cache_at new number) cache line → GivenUpBelow need h line number old new →
+pub one_more : (need : Need) (h line number : ℕ) (old new : List Cached) (cache : Cached) → number ≢ h →
+    number < length new → GivesUp need (cache_at new number) cache line → GivenUpBelow need h line number old new →
     GivenUpBelow need h line (suc number) old (slice_set new number cache)
 one_more need h line number old new cache other inside gives below = record {
   count = length-set new number cache ∙ below.count;
@@ -63,8 +66,8 @@ all_given_up need h line number old new all below = record {
 }
 
 -- one hart before those that were asked
-pub one_before : (caches : List Cached) (from number h line : ℕ) (some here : Bool) → from ≡ suc number → number < length caches →
-    some ≡ others_from from (drop from caches) h line →
+pub one_before : (caches : List Cached) (from number h line : ℕ) (some here : Bool) → from ≡ suc number →
+    number < length caches → some ≡ others_from from (drop from caches) h line →
     here ≡ (not (number == h) && is_resident (cache_at caches number).residency line) →
     (here || some) ≡ others_from number (drop number caches) h line
 one_before caches from number h line some here next inside later is =

@@ -1,5 +1,6 @@
 -- what becomes of one line keeps its copies and main memory telling one thing
-use Rattle.std.proofs.Common.{◌≡◌, ◌≢◌, ◌∙◌, ℕ, Bool, true, false, List, Option, None, Some, option_map, refl, ap, sym, inl, inr, if◌then◌else◌}
+use Rattle.std.proofs.Common.{◌≡◌, ◌≢◌, ◌∙◌, ℕ, Bool, true, false, List, Option, None, Some, option_map, refl, ap, sym}
+use Rattle.std.proofs.Common.{inl, inr, if◌then◌else◌}
 use Rattle.std.proofs.lemmas.Bool.{cases_eq}
 use Rattle.std.proofs.lemmas.Option.{same_Some}
 use Rattle.cache_sets.specs.Cached.{Copy, copy_with_letter}
@@ -53,7 +54,8 @@ after_read h bytes shared old new read g copy there =
       | inr other ↦ was (old g) refl other (sym (read.others g other) ∙ there)
     ]
   where
-    was : (before : Option Copy) → old g ≡ before → g ≢ h → option_map as_read before ≡ Some copy → AfterRead h bytes shared old g copy
+    was : (before : Option Copy) → old g ≡ before → g ≢ h → option_map as_read before ≡ Some copy →
+        AfterRead h bytes shared old g copy
     was None is other same = none_some same
     was (Some before) is other same = Other other before is (same_Some copy (as_read before) (sym same))
 
@@ -80,8 +82,8 @@ written_unshared : (shared : Bool) → may_write (filled_of Read shared) ≡ tru
 written_unshared true may = absurd (cc)
 written_unshared false may = refl
 
-read_same : (bytes : List ℕ) (behind : List ℕ) (h : ℕ) (shared : Bool) (old : ℕ → Option Copy) → Coherent bytes old behind →
-    (g : ℕ) (copy : Copy) → AfterRead h bytes shared old g copy → copy.bytes ≡ bytes
+read_same : (bytes : List ℕ) (behind : List ℕ) (h : ℕ) (shared : Bool) (old : ℕ → Option Copy) →
+    Coherent bytes old behind → (g : ℕ) (copy : Copy) → AfterRead h bytes shared old g copy → copy.bytes ≡ bytes
 read_same bytes behind h shared old coherent g copy (Own same is) = ap (λ c. c.bytes) is
 read_same bytes behind h shared old coherent g copy (Other other before there is) =
     ap (λ c. c.bytes) is ∙ coherent.same g before there
@@ -95,32 +97,38 @@ read_alone bytes h shared old new read f g one other (Own same is) (Other apart 
 read_alone bytes h shared old new read f g one other (Other apart before there is) second may =
     absurd (read_only before.letter (sym (ap (λ c. may_write c.letter) is) ∙ may))
 
-read_owner : (bytes : List ℕ) (behind : List ℕ) (h : ℕ) (shared : Bool) (old : ℕ → Option Copy) → Coherent bytes old behind →
-    (f g : ℕ) (one other : Copy) → AfterRead h bytes shared old f one → AfterRead h bytes shared old g other →
-    is_dirty one.letter ≡ true → is_dirty other.letter ≡ true → f ≡ g
+read_owner : (bytes : List ℕ) (behind : List ℕ) (h : ℕ) (shared : Bool) (old : ℕ → Option Copy) →
+    Coherent bytes old behind → (f g : ℕ) (one other : Copy) → AfterRead h bytes shared old f one →
+    AfterRead h bytes shared old g other → is_dirty one.letter ≡ true → is_dirty other.letter ≡ true → f ≡ g
 read_owner bytes behind h shared old coherent f g one other (Own same is) second dirty dirty' =
     not_both dirty (ap (λ c. is_dirty c.letter) is ∙ filled_clean shared)
 read_owner bytes behind h shared old coherent f g one other (Other apart before there is) (Own same is') dirty dirty' =
     not_both dirty' (ap (λ c. is_dirty c.letter) is' ∙ filled_clean shared)
-read_owner bytes behind h shared old coherent f g one other (Other apart before there is) (Other apart' before' there' is') dirty dirty' =
+read_owner bytes behind h shared old coherent f g one other (Other apart before there is)
+    (Other apart' before' there' is') dirty dirty' =
     coherent.owner f g before before' there there' (was_dirty one before is dirty) (was_dirty other before' is' dirty')
   where
-    was_dirty : (copy before : Copy) → copy ≡ as_read before → is_dirty copy.letter ≡ true → is_dirty before.letter ≡ true
-    was_dirty copy before same dirty = sym (still_dirty before.letter) ∙ (sym (ap (λ c. is_dirty c.letter) same) ∙ dirty)
+    was_dirty : (copy before : Copy) → copy ≡ as_read before → is_dirty copy.letter ≡ true →
+        is_dirty before.letter ≡ true
+    was_dirty copy before same dirty =
+        sym (still_dirty before.letter) ∙ (sym (ap (λ c. is_dirty c.letter) same) ∙ dirty)
 
-clean_before_read : (h : ℕ) (bytes : List ℕ) (shared : Bool) (old new : ℕ → Option Copy) → IsRead h bytes shared old new → IsClean new →
-    IsClean old
+clean_before_read : (h : ℕ) (bytes : List ℕ) (shared : Bool) (old new : ℕ → Option Copy) →
+    IsRead h bytes shared old new → IsClean new → IsClean old
 clean_before_read h bytes shared old new read clean g copy there =
     elim (cases_eq g h) [
       | inl same ↦ none_some (sym read.absent ∙ (sym (ap old same) ∙ there))
       | inr other ↦
-          sym (still_dirty copy.letter) ∙ clean g (as_read copy) (read.others g other ∙ ap (λ before. option_map as_read before) there)
+          sym (still_dirty copy.letter) ∙ clean g (as_read copy)
+          (read.others g other ∙ ap (λ before. option_map as_read before) there)
     ]
 
-pub read_served : (bytes : List ℕ) (behind : List ℕ) (h : ℕ) (shared : Bool) (old new : ℕ → Option Copy) → Coherent bytes old behind →
-    IsRead h bytes shared old new → Coherent bytes new behind
+pub read_served : (bytes : List ℕ) (behind : List ℕ) (h : ℕ) (shared : Bool) (old new : ℕ → Option Copy) →
+    Coherent bytes old behind → IsRead h bytes shared old new → Coherent bytes new behind
 read_served bytes behind h shared old new coherent read = record {
-  same = λ g copy there. read_same bytes behind h shared old coherent g copy (after_read h bytes shared old new read g copy there);
+  same =
+      λ g copy there. read_same bytes behind h shared old coherent g copy
+      (after_read h bytes shared old new read g copy there);
   alone = λ f g one other first second.
       read_alone bytes h shared old new read f g one other (after_read h bytes shared old new read f one first)
       (after_read h bytes shared old new read g other second);
@@ -137,17 +145,17 @@ pub record HasLeft (h : ℕ) (left : Copy) (old new : ℕ → Option Copy) (behi
   pub others : (g : ℕ) → g ≢ h → new g ≡ old g
   pub written : after ≡ (if is_dirty left.letter then left.bytes else behind)
 
-was_there : (h : ℕ) (left : Copy) (old new : ℕ → Option Copy) (behind after : List ℕ) → HasLeft h left old new behind after →
-    (g : ℕ) (copy : Copy) → new g ≡ Some copy → (g ≢ h) × (old g ≡ Some copy)
+was_there : (h : ℕ) (left : Copy) (old new : ℕ → Option Copy) (behind after : List ℕ) →
+    HasLeft h left old new behind after → (g : ℕ) (copy : Copy) → new g ≡ Some copy → (g ≢ h) × (old g ≡ Some copy)
 was_there h left old new behind after has_left g copy there =
     elim (cases_eq g h) [
       | inl same ↦ none_some (sym has_left.gone ∙ (sym (ap new same) ∙ there))
       | inr other ↦ (other, sym (has_left.others g other) ∙ there)
     ]
 
-written_back : (bytes behind after : List ℕ) (h : ℕ) (left : Copy) (old new : ℕ → Option Copy) → Coherent bytes old behind →
-    HasLeft h left old new behind after → IsClean new → (dirty : Bool) → is_dirty left.letter ≡ dirty →
-    (if dirty then left.bytes else behind) ≡ bytes
+written_back : (bytes behind after : List ℕ) (h : ℕ) (left : Copy) (old new : ℕ → Option Copy) →
+    Coherent bytes old behind → HasLeft h left old new behind after → IsClean new → (dirty : Bool) →
+    is_dirty left.letter ≡ dirty → (if dirty then left.bytes else behind) ≡ bytes
 written_back bytes behind after h left old new coherent has_left clean true dirty = coherent.same h left has_left.there
 written_back bytes behind after h left old new coherent has_left clean false dirty =
     coherent.memory
@@ -158,15 +166,17 @@ written_back bytes behind after h left old new coherent has_left clean false dir
       | inr other ↦ clean g copy (has_left.others g other ∙ there)
     ])
 
-pub left_cache : (bytes behind after : List ℕ) (h : ℕ) (left : Copy) (old new : ℕ → Option Copy) → Coherent bytes old behind →
-    HasLeft h left old new behind after → Coherent bytes new after
+pub left_cache : (bytes behind after : List ℕ) (h : ℕ) (left : Copy) (old new : ℕ → Option Copy) →
+    Coherent bytes old behind → HasLeft h left old new behind after → Coherent bytes new after
 left_cache bytes behind after h left old new coherent has_left =
     let was = was_there h left old new behind after has_left in
     record {
       same = λ g copy there. coherent.same g copy (was g copy there).1;
       alone = λ f g one other first second. coherent.alone f g one other (was f one first).1 (was g other second).1;
       owner = λ f g one other first second. coherent.owner f g one other (was f one first).1 (was g other second).1;
-      memory = λ clean. has_left.written ∙ written_back bytes behind after h left old new coherent has_left clean (is_dirty left.letter) refl;
+      memory =
+          λ clean. has_left.written ∙ written_back bytes behind after h left old new coherent has_left clean
+          (is_dirty left.letter) refl;
     }
 
 -- a hart put new bytes into a copy that it may write, which is modified then
@@ -177,15 +187,16 @@ pub record IsStored (h : ℕ) (bytes : List ℕ) (old new : ℕ → Option Copy)
   pub here : new h ≡ Some (record { letter = M; bytes = bytes })
   pub others : (g : ℕ) → g ≢ h → new g ≡ old g
 
-pub stored : (bytes behind put : List ℕ) (h : ℕ) (old new : ℕ → Option Copy) → Coherent bytes old behind → IsStored h put old new →
-    Coherent put new behind
+pub stored : (bytes behind put : List ℕ) (h : ℕ) (old new : ℕ → Option Copy) → Coherent bytes old behind →
+    IsStored h put old new → Coherent put new behind
 stored bytes behind put h old new coherent store =
     write_served put behind h new (record { letter = M; bytes = put }) store.here refl refl
     (λ g other. store.others g other ∙ nothing g other (old g) refl)
   where
     nothing : (g : ℕ) → g ≢ h → (copy : Option Copy) → old g ≡ copy → copy ≡ None
     nothing g other None is = refl
-    nothing g other (Some copy) is = absurd (other (sym (coherent.alone h g store.before copy store.there is store.may)))
+    nothing g other (Some copy) is =
+        absurd (other (sym (coherent.alone h g store.before copy store.there is store.may)))
 
 -- copies and main memory that are as they were tell what they told
 pub same_line : (bytes : List ℕ) (old new : ℕ → Option Copy) (behind after : List ℕ) → Coherent bytes old behind →

@@ -1,17 +1,21 @@
--- Laws of caches that a pool lends, offered to the layers above: what is left of a pool, and a cache that is given back to it.
-use Rattle.std.proofs.Common.{◌≡◌, ◌≢◌, ◌∙◌, ◌≤◌, ◌<◌, ◌*◌, ℕ, zero, suc, zero-add, arith, if◌then◌else◌, List, [], ◌∷◌, length, map, replicate}
+-- Laws of caches that a pool lends, offered to the layers above: what is left of a pool, and a
+-- cache that is given back to it.
+use Rattle.std.proofs.Common.{◌≡◌, ◌≢◌, ◌∙◌, ◌≤◌, ◌<◌, ◌*◌, ℕ, zero, suc, zero-add, arith, if◌then◌else◌, List, [], ◌∷◌}
+use Rattle.std.proofs.Common.{length, map, replicate}
 use Rattle.std.proofs.Common.{slice_index, refl, ap, sym, subst, inl, inr}
 use Rattle.std.specs.List.{range_with_len}
 use Rattle.std.specs.Prelude.{slice_set}
 use Rattle.std.proofs.lemmas.Bool.{cases_eq}
-use Rattle.std.proofs.lemmas.List.{ext_get_or, get_or-replicate, get_or-set_other, get_or-set_same, length-map, length-replicate, length-set, map-set}
+use Rattle.std.proofs.lemmas.List.{ext_get_or, get_or-replicate, get_or-set_other, get_or-set_same, length-map}
+use Rattle.std.proofs.lemmas.List.{length-replicate, length-set, map-set}
 use Rattle.std.proofs.lemmas.List.FromFn.{get_or-map-range_with_len, length-map-range_with_len}
 use Rattle.cache_sets.specs.Cached.{Cached, empty_cached}
 use Rattle.cache_sets.specs.Slotted.{IsLent, Slotted, empty_slotted, lent, slots_of}
 use Rattle.cache_sets.proofs.Laws.{is_lent-empty, lent-alike, lent-empty}
 use Rattle.coherence.specs.Caches.{cache_at, no_cache}
 use Rattle.coherence.specs.Changed.{IsReplacedAt}
-use Rattle.coherence.specs.Lent.{IsLentTo, IsReplacedIn, LeavesHolds, LeavesOwner, Offers, lent_all, no_slotted, slotted_at}
+use Rattle.coherence.specs.Lent.{IsLentTo, IsReplacedIn, LeavesHolds, LeavesOwner, Offers, lent_all, no_slotted}
+use Rattle.coherence.specs.Lent.{slotted_at}
 use Rattle.line_pool.specs.declared.slot.Slot.{Slot}
 use Rattle.line_pool.specs.Calls.{IsMade}
 use Rattle.line_pool.specs.Keeping.{Keeps, times_among}
@@ -24,13 +28,15 @@ use Rattle.line_pool.proofs.Laws.OtherLaws.{same_has}
 pub length-lent : (pool : Pooled) (caches : List Slotted) → length (lent_all pool caches) ≡ length caches
 length-lent pool caches = length-map caches (lent pool)
 
-pub lent_at : (pool : Pooled) (caches : List Slotted) (h : ℕ) → cache_at (lent_all pool caches) h ≡ lent pool (slotted_at caches h)
+pub lent_at : (pool : Pooled) (caches : List Slotted) (h : ℕ) →
+    cache_at (lent_all pool caches) h ≡ lent pool (slotted_at caches h)
 lent_at pool [] h = refl
 lent_at pool (cache ∷ caches) zero = refl
 lent_at pool (cache ∷ caches) (suc h) = lent_at pool caches h
 
 -- what one owner's calls leave to another, what none leaves, and one call after another
-pub leaves_owner : (owner other : ℕ) (old new : Pooled) → LeavesOthers owner old new → other ≢ owner → LeavesOwner other old new
+pub leaves_owner : (owner other : ℕ) (old new : Pooled) → LeavesOthers owner old new → other ≢ owner →
+    LeavesOwner other old new
 leaves_owner owner other old new leaves apart = record {
   outs = λ slot mine. leaves.outs slot (λ same. apart (sym mine ∙ same));
   count = leaves.counts other apart;
@@ -39,22 +45,28 @@ leaves_owner owner other old new leaves apart = record {
 }
 
 pub leaves_owner-same : (owner : ℕ) (pool : Pooled) → LeavesOwner owner pool pool
-leaves_owner-same owner pool = record { outs = λ slot mine. refl; count = refl; bytes = λ slot mine has. refl; quotas = refl }
+leaves_owner-same owner pool =
+    record { outs = λ slot mine. refl; count = refl; bytes = λ slot mine has. refl; quotas = refl }
 
-pub leaves_owner-then : (owner : ℕ) (old between new : Pooled) → LeavesOwner owner old between → LeavesOwner owner between new
+pub leaves_owner-then : (owner : ℕ) (old between new : Pooled) → LeavesOwner owner old between →
+    LeavesOwner owner between new
     → LeavesOwner owner old new
 leaves_owner-then owner old between new first second = record {
   outs = λ slot mine. second.outs slot mine ∙ first.outs slot mine;
   count = second.count ∙ first.count;
-  bytes = λ slot mine has. second.bytes slot mine (same_has old between slot first.quotas ∙ has) ∙ first.bytes slot mine has;
+  bytes =
+      λ slot mine has. second.bytes slot mine (same_has old between slot first.quotas ∙ has)
+      ∙ first.bytes slot mine has;
   quotas = second.quotas ∙ first.quotas;
 }
 
 pub leaves_holds-same : (pool : Pooled) → LeavesHolds pool pool
 leaves_holds-same pool owner past = leaves_owner-same owner pool
 
-pub leaves_holds-then : (old between new : Pooled) → LeavesHolds old between → LeavesHolds between new → LeavesHolds old new
-leaves_holds-then old between new first second owner past = leaves_owner-then owner old between new (first owner past) (second owner past)
+pub leaves_holds-then : (old between new : Pooled) → LeavesHolds old between → LeavesHolds between new →
+    LeavesHolds old new
+leaves_holds-then old between new first second owner past =
+    leaves_owner-then owner old between new (first owner past) (second owner past)
 
 -- so an owner keeps all that it kept, and the bytes of each slot of it
 pub keeps-owner : (owner : ℕ) (old new : Pooled) (slots : List Slot) → LeavesOwner owner old new → Keeps old owner slots
@@ -62,34 +74,41 @@ pub keeps-owner : (owner : ℕ) (old new : Pooled) (slots : List Slot) → Leave
 keeps-owner owner old new slots leaves keeps = record {
   own = keeps.own;
   out = λ slot. elim (cases_eq slot.owner owner) [
-    | inl mine ↦ subst (λ out. times_among slots slot ≤ (if out then 1 else 0)) (sym (leaves.outs slot mine)) (keeps.out slot)
+    | inl mine ↦ subst (λ out. times_among slots slot ≤ (if out then 1 else 0)) (sym (leaves.outs slot mine))
+        (keeps.out slot)
     | inr differs ↦ omega (arith, keeps.own slot differs)
   ];
   all = keeps.all ∙ sym leaves.count;
 }
 
-pub bytes-owner : (owner : ℕ) (old new : Pooled) (slots : List Slot) (slot : Slot) → LeavesOwner owner old new → Keeps old owner slots
+pub bytes-owner : (owner : ℕ) (old new : Pooled) (slots : List Slot) (slot : Slot) → LeavesOwner owner old new →
+    Keeps old owner slots
     → 1 ≤ times_among slots slot → bytes_of new slot ≡ bytes_of old slot
 bytes-owner owner old new slots slot leaves keeps among =
-    leaves.bytes slot (kept-owner old owner slots slot keeps among) (has-out old slot (kept-out old owner slots slot keeps among))
+    leaves.bytes slot (kept-owner old owner slots slot keeps among)
+    (has-out old slot (kept-out old owner slots slot keeps among))
 
 -- and a cache is the one that it was, and is lent
-pub lent-owner : (old new : Pooled) (cache : Slotted) → LeavesOwner cache.owner old new → IsLent old cache → lent new cache ≡ lent old cache
+pub lent-owner : (old new : Pooled) (cache : Slotted) → LeavesOwner cache.owner old new → IsLent old cache →
+    lent new cache ≡ lent old cache
 lent-owner old new cache leaves owes =
-    lent-alike old new cache (λ slot among. bytes-owner cache.owner old new (slots_of cache) slot leaves owes.keeps among)
+    lent-alike old new cache
+    (λ slot among. bytes-owner cache.owner old new (slots_of cache) slot leaves owes.keeps among)
 
-pub is_lent-owner : (old new : Pooled) (cache : Slotted) → LeavesOwner cache.owner old new → IsLent old cache → IsLent new cache
+pub is_lent-owner : (old new : Pooled) (cache : Slotted) → LeavesOwner cache.owner old new → IsLent old cache →
+    IsLent new cache
 is_lent-owner old new cache leaves owes = record {
   quota = ap (λ quotas. slice_index quotas cache.owner) leaves.quotas ∙ owes.quota;
   keeps = keeps-owner cache.owner old new (slots_of cache) leaves owes.keeps;
 }
 
--- a hart's cache was changed in its pool, which left those of the other harts, and is given back: the others are as they were, and
--- the pool lends all as before
+-- a hart's cache was changed in its pool, which left those of the other harts, and is given back: the others are as
+-- they were, and the pool lends all as before
 module _ (old new : Pooled) (caches : List Slotted) (h : ℕ) (cache : Slotted) (owed : IsLentTo old caches)
     (leaves : (g : ℕ) → g ≢ h → g < length caches → LeavesOwner g old new) where
   left_to : (g : ℕ) → g ≢ h → g < length caches → LeavesOwner (slotted_at caches g).owner old new
-  left_to g apart within = subst (λ owner. LeavesOwner owner old new) (sym (owed.owned g within)) (leaves g apart within)
+  left_to g apart within =
+      subst (λ owner. LeavesOwner owner old new) (sym (owed.owned g within)) (leaves g apart within)
 
   other_set : (g : ℕ) → g ≢ h → slotted_at (slice_set caches h cache) g ≡ slotted_at caches g
   other_set g apart = get_or-set_other caches h g cache no_slotted apart
@@ -104,7 +123,8 @@ module _ (old new : Pooled) (caches : List Slotted) (h : ℕ) (cache : Slotted) 
       sizes = length-lent new (slice_set caches h cache) ∙ length-set caches h cache
 
       at : (g : ℕ) → g < length caches
-          → cache_at (lent_all new (slice_set caches h cache)) g ≡ cache_at (slice_set (lent_all old caches) h (lent new cache)) g
+          → cache_at (lent_all new (slice_set caches h cache)) g
+          ≡ cache_at (slice_set (lent_all old caches) h (lent new cache)) g
       at g within = elim (cases_eq g h) [
         | inl same ↦
             rw same
@@ -130,7 +150,8 @@ module _ (old new : Pooled) (caches : List Slotted) (h : ℕ) (cache : Slotted) 
       | inl same ↦ subst (IsLent new) (sym (here g same within)) kept
       | inr apart ↦
           subst (IsLent new) (sym (other_set g apart))
-          (is_lent-owner old new (slotted_at caches g) (left_to g apart (inside g within)) (owed.each g (inside g within)))
+          (is_lent-owner old new (slotted_at caches g) (left_to g apart (inside g within))
+          (owed.each g (inside g within)))
     ];
   }
     where
@@ -146,7 +167,8 @@ module _ (old new : Pooled) (caches : List Slotted) (h : ℕ) (cache : Slotted) 
           ∙ get_or-set_same caches h cache no_slotted (subst (λ n. n < length caches) same (inside g within))
 
 -- so where it was changed by a call that leaves all other owners
-module _ (old new : Pooled) (caches : List Slotted) (h : ℕ) (before after : Slotted) (owed : IsLentTo old caches) (inside : h < length caches)
+module _ (old new : Pooled) (caches : List Slotted) (h : ℕ) (before after : Slotted) (owed : IsLentTo old caches)
+    (inside : h < length caches)
     (was : before ≡ slotted_at caches h) (leaves : LeavesOthers before.owner old new) where
   own : before.owner ≡ h
   own = ap (λ (c : Slotted). c.owner) was ∙ owed.owned h inside
@@ -165,7 +187,8 @@ module _ (old new : Pooled) (caches : List Slotted) (h : ℕ) (before after : Sl
       leaves_owner before.owner owner old new leaves (λ is. absurd (omega (arith, past, is, own, inside, owed.few)))
 
 -- one of the caches was changed, and no bytes of any
-pub replaced_at : (Becomes : Cached → Cached → Type 0) (h : ℕ) (old new : List Slotted) (pool : Pooled) → IsReplacedIn Becomes h old new
+pub replaced_at : (Becomes : Cached → Cached → Type 0) (h : ℕ) (old new : List Slotted) (pool : Pooled) →
+    IsReplacedIn Becomes h old new
     → IsReplacedAt Becomes h (lent_all pool old) (lent_all pool new)
 replaced_at Becomes h old new pool replaced = record {
   cache = lent pool replaced.cache;
@@ -173,7 +196,8 @@ replaced_at Becomes h old new pool replaced = record {
   new_is = ap (lent_all pool) replaced.new_is ∙ map-set (lent pool) old h replaced.cache;
 }
 
-pub lent-replaced : (Becomes : Cached → Cached → Type 0) (h : ℕ) (old new : List Slotted) (pool : Pooled) → h < length old
+pub lent-replaced : (Becomes : Cached → Cached → Type 0) (h : ℕ) (old new : List Slotted) (pool : Pooled) →
+    h < length old
     → IsReplacedIn Becomes h old new → IsLentTo pool old → IsLentTo pool new
 lent-replaced Becomes h old new pool inside replaced owed =
     subst (IsLentTo pool) (sym replaced.new_is)
@@ -202,7 +226,8 @@ caches-first pool harts ways sets =
     sizes = length-lent pool (first_caches harts ways sets) ∙ length-first harts ways sets
 
     at : (h : ℕ) → h < harts
-        → cache_at (lent_all pool (first_caches harts ways sets)) h ≡ cache_at (replicate harts (empty_cached ways sets)) h
+        → cache_at (lent_all pool (first_caches harts ways sets)) h
+        ≡ cache_at (replicate harts (empty_cached ways sets)) h
     at h within =
         lent_at pool (first_caches harts ways sets) h
         ∙ ap (lent pool) (first_at harts ways sets h within)

@@ -1,5 +1,5 @@
--- Two harts elide one lock, and each stores to a line of its own. As the second commits, the section of the first goes on: its
--- private run is covered, and shows what it showed. What it does not say is refuted on the same run.
+-- Two harts elide one lock, and each stores to a line of its own. As the second commits, the section of the first goes
+-- on: its private run is covered, and shows what it showed. What it does not say is refuted on the same run.
 use Rattle.std.specs.Prelude.{slice_index}
 use Rattle.std.proofs.Common.{◌≡◌, ℕ, List, [], ◌∷◌, None, Some, true, replicate, refl, arith, ◌<◌}
 use Rattle.residency.specs.Cache.{read_bit}
@@ -33,8 +33,10 @@ first =
 -- both are in their sections
 abbrev before : List Event
 before =
-    event Step 0 ∷ event Order 0 ∷ event Serve 0 ∷ event Step 0 ∷ event Step 1 ∷ event Order 1 ∷ event Serve 1 ∷ event Step 1 ∷
-    event Step 0 ∷ event Order 0 ∷ event Serve 0 ∷ event Step 0 ∷ event Step 1 ∷ event Order 1 ∷ event Serve 1 ∷ event Step 1 ∷ []
+    event Step 0 ∷ event Order 0 ∷ event Serve 0 ∷ event Step 0 ∷ event Step 1 ∷ event Order 1 ∷
+    event Serve 1 ∷ event Step 1 ∷
+    event Step 0 ∷ event Order 0 ∷ event Serve 0 ∷ event Step 0 ∷ event Step 1 ∷ event Order 1 ∷ event Serve 1
+    ∷ event Step 1 ∷ []
 
 -- the second hart commits
 abbrev commit : Event
@@ -43,7 +45,8 @@ commit = event Step 1
 abbrev expected : List Outcome
 expected =
     Missed (line_addr 1024) Read ∷ ordered_with [] [] ∷ served_with [] [] ∷ Began ∷ Missed (line_addr 1024) Read ∷
-    ordered_with [] [] ∷ served_with [] [] ∷ Began ∷ Missed (line_addr 1025) Write ∷ ordered_with [] [] ∷ served_with [] [] ∷ Buffered ∷
+    ordered_with [] [] ∷ served_with [] [] ∷ Began ∷ Missed (line_addr 1025) Write ∷ ordered_with [] [] ∷
+    served_with [] [] ∷ Buffered ∷
     Missed (line_addr 1026) Write ∷ ordered_with [] [] ∷ served_with [] [] ∷ Buffered ∷ []
 
 outcomes : outcomes_from first before ≡ expected
@@ -127,7 +130,8 @@ lock_word_is_not_committed same = differ 1 0 (omega arith) same
 
 -- wrong: another hart's event changes no byte that a section shows; it shows what the other hart has committed
 EveryByteIsShownAsBefore : FlatState → FlatState → ℕ → ℕ → Type 0
-EveryByteIsShownAsBefore old new h count = (place : ℕ) → slice_index (alone new h count).bytes place ≡ slice_index (alone old h count).bytes place
+EveryByteIsShownAsBefore old new h count =
+    (place : ℕ) → slice_index (alone new h count).bytes place ≡ slice_index (alone old h count).bytes place
 
 bytes_are_not_all_shown_as_before : EveryByteIsShownAsBefore old new 0 2 → ⊥
 unfolding computing EveryByteIsShownAsBefore

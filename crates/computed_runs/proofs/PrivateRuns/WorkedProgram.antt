@@ -28,5 +28,6 @@ live : section_of (after program config events) 0 ≡ Some (section 1 65536 0 1)
 unfolding computing
 live = refl
 
-covered : IsCoveredRun (after program config events).committed 0 (cache_of (after program config events) 0) (section 1 65536 0 1)
+covered : IsCoveredRun (after program config events).committed 0 (cache_of (after program config events) 0)
+    (section 1 65536 0 1)
 covered = live_sections_run_covered program config events 0 (section 1 65536 0 1) (all_zero 64) live

@@ -26,7 +26,8 @@ pair =
 -- one section is begun and lost
 abbrev loss : List Event
 loss =
-    event Step 0 ∷ event Order 0 ∷ event Serve 0 ∷ event Step 0 ∷ event Step 1 ∷ event Order 1 ∷ event Serve 1 ∷ event Step 1 ∷ []
+    event Step 0 ∷ event Order 0 ∷ event Serve 0 ∷ event Step 0 ∷ event Step 1 ∷ event Order 1 ∷ event Serve 1
+    ∷ event Step 1 ∷ []
 
 -- three losses in a row are counted
 three_tries : (hart_of (state_after pair (loss ++ loss ++ loss)) 0).tries ≡ 3
@@ -50,7 +51,8 @@ crowded =
 
 abbrev filling : List Event
 filling =
-    event Step 0 ∷ event Order 0 ∷ event Serve 0 ∷ event Step 0 ∷ event Step 0 ∷ event Order 0 ∷ event Serve 0 ∷ event Step 0 ∷ []
+    event Step 0 ∷ event Order 0 ∷ event Serve 0 ∷ event Step 0 ∷ event Step 0 ∷ event Order 0 ∷ event Serve 0
+    ∷ event Step 0 ∷ []
 
 rolled_back : (next (state_after crowded filling) (event Step 0)).outcome ≡ RolledBack Room
 unfolding computing

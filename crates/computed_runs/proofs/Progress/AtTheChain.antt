@@ -1,10 +1,11 @@
--- what the laws of sections say, computed at one worked state: four harts in lock removal, of which hart 1 has written line B, number
--- 1025, in its section, and harts 2, 3 and 0 wait for B in this order. Line A, number 1024, has the lock word. Lists are by ascending
--- hart: what stands at place h is said of hart h
+-- what the laws of sections say, computed at one worked state: four harts in lock removal, of which hart 1 has written
+-- line B, number 1025, in its section, and harts 2, 3 and 0 wait for B in this order. Line A, number 1024, has the lock
+-- word. Lists are by ascending hart: what stands at place h is said of hart h
 use Rattle.std.specs.Prelude.{count_by, is_some, nat_lt, slice_index}
 use Rattle.std.specs.List.{list_all}
 use Rattle.std.specs.Option.{option_map}
-use Rattle.std.proofs.Common.{◌≡◌, ◌++◌, ◌==◌, ℕ, Bool, true, false, List, [], ◌∷◌, length, map, replicate, None, Some, refl, if◌then◌else◌}
+use Rattle.std.proofs.Common.{◌≡◌, ◌++◌, ◌==◌, ℕ, Bool, true, false, List, [], ◌∷◌, length, map, replicate, None, Some}
+use Rattle.std.proofs.Common.{refl, if◌then◌else◌}
 use Rattle.residency.specs.Cache.{has_marks, letter_of, room_of, way_of, write_bit, write_bits_of}
 use Rattle.chronicle.specs.Serial.{serial}
 use Rattle.el_base.specs.declared.entries.Entry.{Entry}
@@ -33,7 +34,8 @@ waiting = state_after chain.first chain.ordering
 -- each message is delivered, the last of which costs hart 1 its section
 abbrev delivering : List Event
 delivering =
-    event Deliver 0 ∷ event Deliver 3 ∷ event Deliver 3 ∷ event Deliver 2 ∷ event Deliver 2 ∷ event Deliver 2 ∷ event Deliver 1 ∷
+    event Deliver 0 ∷ event Deliver 3 ∷ event Deliver 3 ∷ event Deliver 2 ∷ event Deliver 2 ∷ event Deliver 2 ∷
+    event Deliver 1 ∷
     event Deliver 1 ∷ event Deliver 1 ∷ []
 
 abbrev delivered : ModelState
@@ -48,7 +50,8 @@ bits_at_first : map live_with_bits waiting.harts ≡ (true, true) ∷ (true, tru
 unfolding computing
 bits_at_first = refl
 
-bits_after_the_loss : map live_with_bits delivered.harts ≡ (true, true) ∷ (false, false) ∷ (true, true) ∷ (true, true) ∷ []
+bits_after_the_loss : map live_with_bits delivered.harts ≡ (true, true) ∷ (false, false) ∷ (true, true)
+    ∷ (true, true) ∷ []
 unfolding computing
 bits_after_the_loss = refl
 
@@ -57,7 +60,8 @@ counters : map (λ hart. length hart.predictor.counters) waiting.harts ≡ 64 �
 unfolding computing
 counters = refl
 
-small_counters : map (λ hart. list_all (λ counter. nat_lt counter 4) hart.predictor.counters) waiting.harts ≡ true ∷ true ∷ true ∷ true ∷ []
+small_counters : map (λ hart. list_all (λ counter. nat_lt counter 4) hart.predictor.counters) waiting.harts
+    ≡ true ∷ true ∷ true ∷ true ∷ []
 unfolding computing
 small_counters = refl
 
@@ -79,16 +83,22 @@ four_harts : length waiting.harts ≡ 4
 unfolding computing
 four_harts = refl
 
--- hart 0 from its first miss to its section: it has a raised request, then an ordered one, then a hold, then none of them
+-- hart 0 from its first miss to its section: it has a raised request, then an ordered one,
+-- then a hold, then none of them
 abbrev waits_of : ModelState → Bool × ℕ × Bool
-waits_of state = (is_some (raised_of state 0), count_by (λ request. request.hart == 0) state.order, is_some (hart_of state 0).held_line)
+waits_of state = (
+  is_some (raised_of state 0),
+  count_by (λ request. request.hart == 0) state.order,
+  is_some (hart_of state 0).held_line,
+)
 
 raised_first : waits_of (state_after chain.first (event Step 0 ∷ [])) ≡ (true, 0, false)
 unfolding computing
 raised_first = refl
 
 -- the raised request is its own
-raised_is_own : option_map (λ request. request.hart) (raised_of (state_after chain.first (event Step 0 ∷ [])) 0) ≡ Some 0
+raised_is_own : option_map (λ request. request.hart) (raised_of (state_after chain.first (event Step 0 ∷ [])) 0)
+    ≡ Some 0
 unfolding computing
 raised_is_own = refl
 
@@ -100,7 +110,8 @@ then_held : waits_of (state_after chain.first (event Step 0 ∷ event Order 0 �
 unfolding computing
 then_held = refl
 
-then_inside : waits_of (state_after chain.first (event Step 0 ∷ event Order 0 ∷ event Serve 0 ∷ event Step 0 ∷ [])) ≡ (false, 0, false)
+then_inside : waits_of (state_after chain.first (event Step 0 ∷ event Order 0 ∷ event Serve 0 ∷ event Step 0 ∷ []))
+    ≡ (false, 0, false)
 unfolding computing
 then_inside = refl
 
@@ -123,7 +134,8 @@ elsewhere_in_no_cache : map (λ hart. is_some (way_of hart.cache 1025)) waiting.
 unfolding computing
 elsewhere_in_no_cache = refl
 
--- the lines in each set of a cache: 16 sets, of at most one line of the four that they may have, each line in the set of its number
+-- the lines in each set of a cache: 16 sets, of at most one line of the four that they may have,
+-- each line in the set of its number
 abbrev lines_of : Hart → List (List ℕ)
 lines_of hart = map (λ set. map (λ way. way.line) set) hart.cache
 
@@ -146,7 +158,8 @@ written_lines : map (λ hart. write_bits_of hart.cache) waiting.harts ≡ 0 ∷ 
 unfolding computing
 written_lines = refl
 
--- after hart 0 took its marker: no mailbox has a message twice, each names another hart, and hart 0 has hart 3 before it
+-- after hart 0 took its marker: no mailbox has a message twice, each names another hart,
+-- and hart 0 has hart 3 before it
 abbrev probed : ModelState
 probed = state_after waiting (event Deliver 0 ∷ [])
 
@@ -177,9 +190,10 @@ probes : map (λ hart. length (origins hart.mail)) probed.harts ≡ 0 ∷ 0 ∷ 
 unfolding computing
 probes = refl
 
--- a step of a hart that waits is stalled, and that of hart 1 commits. `ChainOfFour` has steps that miss a line and buffer an
--- instruction, and `AfterRollbacks` has one that rolls back
-steps : map (λ h. (next waiting (event Step h)).outcome) (0 ∷ 1 ∷ 2 ∷ 3 ∷ []) ≡ Stalled ∷ Committed 3 ∷ Stalled ∷ Stalled ∷ []
+-- a step of a hart that waits is stalled, and that of hart 1 commits. `ChainOfFour` has steps that miss a line and
+-- buffer an instruction, and `AfterRollbacks` has one that rolls back
+steps : map (λ h. (next waiting (event Step h)).outcome) (0 ∷ 1 ∷ 2 ∷ 3 ∷ []) ≡ Stalled ∷ Committed 3
+    ∷ Stalled ∷ Stalled ∷ []
 unfolding computing
 steps = refl
 
@@ -188,7 +202,9 @@ abbrev history : List Entry
 history = entries_from chain.first chain.events
 
 abbrev account_of : ℕ → List ℕ
-account_of h = count_of (begins h) history ∷ count_of (commits h) history ∷ count_of (rolls_back h) history ∷ count_of (loses h) history
+account_of h =
+    count_of (begins h) history ∷ count_of (commits h) history ∷ count_of (rolls_back h) history
+    ∷ count_of (loses h) history
     ∷ (if is_live (state_after chain.first chain.events) h then 1 else 0) ∷ []
 
 accounts : map account_of (0 ∷ 1 ∷ 2 ∷ 3 ∷ [])
@@ -252,7 +268,8 @@ release_is_next : is_release (shown_in waiting 1 (section 2 65536 0 1)) 1 65536 
 unfolding computing
 release_is_next = refl
 
--- all three take effect at once: before, hart 1 is at its acquire and its store is not committed; after, it is past its release and it is
+-- all three take effect at once: before, hart 1 is at its acquire and its store is not committed; after,
+-- it is past its release and it is
 store_before : slice_index waiting.committed.bytes 64 ≡ 0
 unfolding computing
 store_before = refl

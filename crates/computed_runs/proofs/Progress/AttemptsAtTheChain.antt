@@ -1,5 +1,6 @@
--- what the laws of lock removal say, computed at one worked state: four harts, of which hart 1 has written line B, number 1025, in its
--- section, and harts 2, 3 and 0 wait for B in this order. Lists are by ascending hart: what stands at place h is said of hart h
+-- what the laws of lock removal say, computed at one worked state: four harts, of which hart 1 has written line B,
+-- number 1025, in its section, and harts 2, 3 and 0 wait for B in this order. Lists are by ascending hart: what
+-- stands at place h is said of hart h
 use Rattle.std.specs.List.{list_all, list_any}
 use Rattle.std.specs.Prelude.{is_some, not}
 use Rattle.std.proofs.Common.{◌≡◌, ◌∙◌, ◌++◌, ℕ, true, false, List, [], ◌∷◌, map, Some, refl, sym}
@@ -21,7 +22,8 @@ waiting = state_after chain.first chain.ordering
 -- each message is delivered, the last of which costs hart 1 its section
 abbrev delivering : List Event
 delivering =
-    event Deliver 0 ∷ event Deliver 3 ∷ event Deliver 3 ∷ event Deliver 2 ∷ event Deliver 2 ∷ event Deliver 2 ∷ event Deliver 1 ∷
+    event Deliver 0 ∷ event Deliver 3 ∷ event Deliver 3 ∷ event Deliver 2 ∷ event Deliver 2 ∷ event Deliver 2 ∷
+    event Deliver 1 ∷
     event Deliver 1 ∷ event Deliver 1 ∷ []
 
 abbrev delivered : ModelState
@@ -48,7 +50,8 @@ unfolding computing
 kept_stamps = refl
 
 -- hart 0, which has the least stamp, loses to nobody over the whole chain
-least_never_loses : list_all (λ outcome. not (is_some (winner_over outcome 0))) (outcomes_from chain.first chain.events) ≡ true
+least_never_loses : list_all (λ outcome. not (is_some (winner_over outcome 0)))
+    (outcomes_from chain.first chain.events) ≡ true
 unfolding computing
 least_never_loses = refl
 
@@ -68,7 +71,8 @@ closes_its_attempt : closes served (event Step 0) 0 ≡ true
 unfolding computing
 closes_its_attempt = refl
 
--- before the messages of line B are delivered, hart 1 retains it; after they are, no section does, and its head, hart 2, is served
+-- before the messages of line B are delivered, hart 1 retains it; after they are, no section does,
+-- and its head, hart 2, is served
 retained_at_first : map (λ h. retains waiting h 1025) (0 ∷ 1 ∷ 2 ∷ 3 ∷ []) ≡ false ∷ true ∷ false ∷ false ∷ []
 unfolding computing
 retained_at_first = refl
@@ -84,7 +88,8 @@ head_is_served = refl
 -- so it is wrong that a line that is waited for is retained by a section though every message was delivered
 abbrev RetainedThoughDelivered : Type 0
 RetainedThoughDelivered =
-    (state : ModelState) (line : ℕ) → is_some (head_of state line) ≡ true → map (λ hart. hart.mail) state.harts ≡ map (λ hart. []) state.harts →
+    (state : ModelState) (line : ℕ) → is_some (head_of state line) ≡ true →
+    map (λ hart. hart.mail) state.harts ≡ map (λ hart. []) state.harts →
     list_any (λ h. retains state h line) (numbers_of state) ≡ true
 
 still_waited_for : is_some (head_of delivered 1025) ≡ true
@@ -96,4 +101,5 @@ unfolding computing
 no_message = refl
 
 not_retained_once_delivered : RetainedThoughDelivered → ⊥
-not_retained_once_delivered stays = true_false (sym (stays delivered 1025 still_waited_for no_message) ∙ retained_by_none)
+not_retained_once_delivered stays =
+    true_false (sym (stays delivered 1025 still_waited_for no_message) ∙ retained_by_none)

@@ -1,5 +1,5 @@
--- what the laws of lock removal say of later attempts, computed at worked states: two harts, each of which has two sections, and writes
--- line B, number 1025, in the first
+-- what the laws of lock removal say of later attempts, computed at worked states: two harts, each of which has two
+-- sections, and writes line B, number 1025, in the first
 use Rattle.std.specs.Option.{option_map}
 use Rattle.std.proofs.Common.{◌≡◌, ◌++◌, true, List, [], ◌∷◌, Some, refl}
 use Rattle.el_base.specs.declared.config.Mode.TheVariants.{Tlr}
@@ -23,7 +23,8 @@ first = machine_of (settings 2 Tlr 16 4 16 2000) 128 (worker ∷ worker ∷ [])
 -- both are in their sections
 abbrev both : List Event
 both =
-    event Step 0 ∷ event Order 0 ∷ event Serve 0 ∷ event Step 0 ∷ event Step 1 ∷ event Order 1 ∷ event Serve 1 ∷ event Step 1 ∷ []
+    event Step 0 ∷ event Order 0 ∷ event Serve 0 ∷ event Step 0 ∷ event Step 1 ∷ event Order 1 ∷ event Serve 1
+    ∷ event Step 1 ∷ []
 
 -- hart 0 has written line B, and hart 1 waits for it
 abbrev deferring : ModelState
@@ -40,7 +41,8 @@ deferred_head : option_map (λ head. head.stamp) (head_of deferring 1025) ≡ So
 unfolding computing
 deferred_head = refl
 
--- it commits, which closes its attempt, and begins again: the new attempt has a greater clock than the head that was deferred
+-- it commits, which closes its attempt, and begins again: the new attempt has a greater clock
+-- than the head that was deferred
 closes_after_deferring : closes deferring (event Step 0) 0 ≡ true
 unfolding computing
 closes_after_deferring = refl
@@ -67,7 +69,8 @@ winner = refl
 abbrev again : ModelState
 again =
     state_after asking
-    (event Order 0 ∷ event Serve 0 ∷ event Step 0 ∷ event Step 0 ∷ event Step 1 ∷ event Step 1 ∷ event Order 1 ∷ event Serve 1 ∷
+    (event Order 0 ∷ event Serve 0 ∷ event Step 0 ∷ event Step 0 ∷ event Step 1 ∷ event Step 1 ∷
+    event Order 1 ∷ event Serve 1 ∷
     event Step 1 ∷ [])
 
 kept_stamp : attempt_of again 1 ≡ Some (stamp 0 1)

@@ -1,7 +1,8 @@
 -- the line of the least open stamp at worked states: the premise of the law holds there
 use Rattle.std.specs.List.{list_any}
 use Rattle.std.specs.Option.{option_map}
-use Rattle.std.proofs.Common.{◌≡◌, ◌≢◌, ◌∙◌, ◌++◌, ℕ, zero, suc, true, false, List, [], ◌∷◌, Some, replicate, refl, ap, sym}
+use Rattle.std.proofs.Common.{◌≡◌, ◌≢◌, ◌∙◌, ◌++◌, ℕ, zero, suc, true, false, List, [], ◌∷◌, Some, replicate, refl, ap}
+use Rattle.std.proofs.Common.{sym}
 use Rattle.computed_runs.proofs.Computing.{computing}
 use Rattle.computed_runs.proofs.Given.{bytes_of, event, ordered_with, request, served_with, stamp}
 use Rattle.computed_runs.proofs.Rows.ChainOfFour as chain
@@ -24,8 +25,8 @@ use Rattle.progress_laws.specs.LeastStamp.{LeastWaits, MovesOn, is_about}
 use Rattle.removal_laws.specs.Laws.{HasLeast, attempt_of, is_served}
 use Rattle.stamp.specs.Stamps.{Stamp, less_of}
 
--- four harts, of which hart 1 has written line B, number 1025, in its section, and harts 2, 3 and 0 wait for B in this order. Hart 0 has
--- the least stamp. All three requests are ordered, and no message is delivered
+-- four harts, of which hart 1 has written line B, number 1025, in its section, and harts 2, 3 and 0 wait for B in this
+-- order. Hart 0 has the least stamp. All three requests are ordered, and no message is delivered
 abbrev waiting : ModelState
 waiting = state_after chain.first chain.ordering
 
@@ -38,7 +39,8 @@ marker_is_about_it = refl
 abbrev delivered : ModelState
 delivered =
     state_after waiting
-    (event Deliver 0 ∷ event Deliver 3 ∷ event Deliver 3 ∷ event Deliver 2 ∷ event Deliver 2 ∷ event Deliver 2 ∷ event Deliver 1 ∷
+    (event Deliver 0 ∷ event Deliver 3 ∷ event Deliver 3 ∷ event Deliver 2 ∷ event Deliver 2 ∷ event Deliver 2 ∷
+    event Deliver 1 ∷
     event Deliver 1 ∷ event Deliver 1 ∷ [])
 
 less_at : (g : ℕ) (other : Stamp) → g ≢ 0 → attempt_of delivered g ≡ Some other → less_of (stamp 0 0) other ≡ true
@@ -101,13 +103,15 @@ program = record {
   bytes = replicate 128 0;
   entry = code_at 0;
   harts = 2;
-  code = record { start = code_at 0; bytes = bytes_of (66871 ∷ 1049235 ∷ swap 7 5 10 ∷ store_beyond 64 5 10 ∷ []) } ∷ [];
+  code =
+      record { start = code_at 0; bytes = bytes_of (66871 ∷ 1049235 ∷ swap 7 5 10 ∷ store_beyond 64 5 10 ∷ []) } ∷ [];
 }
 
 abbrev config : Config
 config = settings 2 Tlr 16 4 16 2000
 
--- hart 1 writes line B in its section; then hart 0 orders its request for B from its own section, and hart 1 loses to it
+-- hart 1 writes line B in its section; then hart 0 orders its request for B from its own
+-- section, and hart 1 loses to it
 abbrev until_ordered : ℕ → List Event
 until_ordered h =
     event Step h ∷ event Step h ∷ event Step h ∷ event Order h ∷ event Serve h ∷ event Step h ∷ event Step h ∷
@@ -117,14 +121,16 @@ abbrev events : List Event
 events = until_ordered 1 ++ event Serve 1 ∷ event Step 1 ∷ until_ordered 0
 
 outcomes_are : outcomes program config events
-    ≡ Ran ∷ Ran ∷ Missed (line_addr 1024) Read ∷ ordered_with [] [] ∷ served_with [] [] ∷ Began ∷ Missed (line_addr 1025) Write ∷
+    ≡ Ran ∷ Ran ∷ Missed (line_addr 1024) Read ∷ ordered_with [] [] ∷ served_with [] [] ∷ Began ∷
+    Missed (line_addr 1025) Write ∷
     ordered_with [] [] ∷ served_with [] [] ∷ Buffered ∷ Ran ∷ Ran ∷ Missed (line_addr 1024) Read ∷ ordered_with [] [] ∷
     served_with [] [] ∷ Began ∷ Missed (line_addr 1025) Write ∷ ordered_with ((1, 0) ∷ []) [] ∷ []
 unfolding computing
 outcomes_are = refl
 
 -- hart 1 keeps its stamp, which is the greater one
-less_of_two : (g : ℕ) (other : Stamp) → g ≢ 0 → attempt_of (after program config events) g ≡ Some other → less_of (stamp 0 0) other ≡ true
+less_of_two : (g : ℕ) (other : Stamp) → g ≢ 0 → attempt_of (after program config events) g ≡ Some other →
+    less_of (stamp 0 0) other ≡ true
 unfolding computing
 less_of_two zero other apart is = absurd (apart refl)
 less_of_two (suc zero) other apart is = let e : other ≡ stamp 0 1 = cc in rw e refl
@@ -134,7 +140,8 @@ has_less_of_two : HasLeast (after program config events) 0 (stamp 0 0)
 unfolding computing
 has_less_of_two = record { attempt = refl; least = less_of_two }
 
-no_message : (g : ℕ) → list_any (is_about (after program config events) 1025 g) (hart_of (after program config events) g).mail ≡ false
+no_message : (g : ℕ) →
+    list_any (is_about (after program config events) 1025 g) (hart_of (after program config events) g).mail ≡ false
 unfolding computing
 no_message zero = refl
 no_message (suc zero) = refl

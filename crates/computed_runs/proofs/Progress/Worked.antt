@@ -18,8 +18,8 @@ use Rattle.mail.specs.Mailbox.{Marker, Probe}
 use Rattle.progress_laws.specs.Ready.{gets_on, is_progress, ready_event}
 use Rattle.rv_flat.specs.FlatState.{status_of}
 
--- four harts in lock removal: hart 1 has written a line in its section, and harts 2, 3 and 0 wait for it in this order, each with a
--- marker of the one before it
+-- four harts in lock removal: hart 1 has written a line in its section, and harts 2, 3 and 0 wait for it in this order,
+-- each with a marker of the one before it
 abbrev waiting : ModelState
 waiting = state_after chain.first chain.ordering
 
@@ -28,7 +28,8 @@ marker_is_ready : ready_event waiting ≡ Some (event Deliver 0)
 unfolding computing
 marker_is_ready = refl
 
--- after it was taken, hart 3 has a marker and a probe, and hart 0 has nothing to do: hart 1, in its section, is the first that gets on
+-- after it was taken, hart 3 has a marker and a probe, and hart 0 has nothing to do: hart 1, in its
+-- section, is the first that gets on
 abbrev probed : ModelState
 probed = state_after waiting (event Deliver 0 ∷ [])
 
@@ -48,7 +49,8 @@ head_waits = refl
 -- so it is wrong that the head of a line is always served
 abbrev HeadsAreServed : Type 0
 HeadsAreServed =
-    (state : ModelState) (h : ℕ) → option_map (λ head. head.hart) (head_of state 1025) ≡ Some h → gets_on state (event Serve h) ≡ true
+    (state : ModelState) (h : ℕ) → option_map (λ head. head.hart) (head_of state 1025) ≡ Some h →
+    gets_on state (event Serve h) ≡ true
 
 head_is_2 : option_map (λ head. head.hart) (head_of waiting 1025) ≡ Some 2
 unfolding computing
@@ -76,16 +78,19 @@ takes_late = refl
 -- so it is wrong that no event of a hart that has stopped is progress
 abbrev StoppedHartsRest : Type 0
 StoppedHartsRest =
-    (state : ModelState) (event : Event) → has_stopped (status_of state.committed event.hart.number) ≡ true → gets_on state event ≡ false
+    (state : ModelState) (event : Event) → has_stopped (status_of state.committed event.hart.number) ≡ true →
+    gets_on state event ≡ false
 
 stopped_may_get_on : StoppedHartsRest → ⊥
 stopped_may_get_on rest = true_false (sym takes_late ∙ rest told_late (event Deliver 1) stopped)
 
--- two harts without elision store to one line: the request that was ordered first is served first, and holds the line for one step
+-- two harts without elision store to one line: the request that was ordered first is served first,
+-- and holds the line for one step
 abbrev pair : ModelState
 pair =
     machine_of (settings 2 Plain 16 4 16 2000) 128 (
-    record { words = store_word 6 11 ∷ []; registers = usual } ∷ record { words = store_word 6 11 ∷ []; registers = usual } ∷ [])
+    record { words = store_word 6 11 ∷ []; registers = usual }
+    ∷ record { words = store_word 6 11 ∷ []; registers = usual } ∷ [])
 
 abbrev ordered : List Event
 ordered = event Step 0 ∷ event Step 1 ∷ event Order 1 ∷ event Order 0 ∷ []

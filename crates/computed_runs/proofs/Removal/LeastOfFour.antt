@@ -1,6 +1,7 @@
--- The laws at worked values: four harts, of which hart 1 has written line B in its section and harts 2, 3 and 0 wait for B in this
--- order. Hart 0 has the least stamp. Beside each law stands a wrong statement that these values refute.
-use Rattle.std.proofs.Common.{◌≡◌, ◌≢◌, ℕ, zero, suc, Bool, true, false, List, [], ◌∷◌, ◌∙◌, ◌≤◌, ◌==◌, not, None, Some, refl, ap, sym, arith}
+-- The laws at worked values: four harts, of which hart 1 has written line B in its section and harts 2, 3 and 0 wait
+-- for B in this order. Hart 0 has the least stamp. Beside each law stands a wrong statement that these values refute.
+use Rattle.std.proofs.Common.{◌≡◌, ◌≢◌, ℕ, zero, suc, Bool, true, false, List, [], ◌∷◌, ◌∙◌, ◌≤◌, ◌==◌, not, None, Some}
+use Rattle.std.proofs.Common.{refl, ap, sym, arith}
 use Rattle.bus_order.specs.Order.{Request}
 use Rattle.el_base.specs.declared.events.Event.{Event}
 use Rattle.el_base.specs.declared.events.Kind.TheVariants.{Deliver, Serve}
@@ -54,7 +55,8 @@ retained_before_delivery never = not_both retained_at_first (never 0 1 1025 olde
 -- all messages are delivered but the last, which is the probe of hart 0 to hart 1
 abbrev delivering : List Event
 delivering =
-    event Deliver 0 ∷ event Deliver 3 ∷ event Deliver 3 ∷ event Deliver 2 ∷ event Deliver 2 ∷ event Deliver 2 ∷ event Deliver 1 ∷
+    event Deliver 0 ∷ event Deliver 3 ∷ event Deliver 3 ∷ event Deliver 2 ∷ event Deliver 2 ∷ event Deliver 2 ∷
+    event Deliver 1 ∷
     event Deliver 1 ∷ []
 
 abbrev probed : ModelState

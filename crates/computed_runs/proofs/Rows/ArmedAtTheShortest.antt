@@ -9,14 +9,16 @@ use Rattle.el_base.specs.declared.outcomes.Outcome.{Outcome}
 use Rattle.el_base.specs.declared.outcomes.Outcome.TheVariants.{Missed, Armed, LetGo}
 use Rattle.computed_runs.proofs.Computing.{computing}
 use Rattle.computed_runs.proofs.Given.{event, ordered_with, served_with}
-use Rattle.computed_runs.proofs.Rows.Given.{load_reserved, machine_of, settings, skip_unless_same, store_conditional, usual}
+use Rattle.computed_runs.proofs.Rows.Given.{load_reserved, machine_of, settings, skip_unless_same, store_conditional}
+use Rattle.computed_runs.proofs.Rows.Given.{usual}
 use Rattle.el_model.specs.Next.{outcomes_from}
 use Rattle.el_model.specs.State.{ModelState}
 
 abbrev tlr : ModelState
 tlr =
     machine_of (settings 1 Tlr 16 4 16 2) 64 (
-    record { words = load_reserved 7 10 ∷ skip_unless_same 7 0 ∷ store_conditional 8 5 10 ∷ []; registers = usual } ∷ [])
+    record { words = load_reserved 7 10 ∷ skip_unless_same 7 0 ∷ store_conditional 8 5 10 ∷ []; registers = usual }
+    ∷ [])
 
 abbrev tlr_events : List Event
 tlr_events = event Step 0 ∷ event Order 0 ∷ event Serve 0 ∷ event Step 0 ∷ event Step 0 ∷ []
@@ -31,7 +33,8 @@ tlr_outcomes = refl
 abbrev sle : ModelState
 sle =
     machine_of (settings 1 Sle 16 4 16 2) 64 (
-    record { words = load_reserved 7 10 ∷ skip_unless_same 7 0 ∷ store_conditional 8 5 10 ∷ []; registers = usual } ∷ [])
+    record { words = load_reserved 7 10 ∷ skip_unless_same 7 0 ∷ store_conditional 8 5 10 ∷ []; registers = usual }
+    ∷ [])
 
 abbrev sle_events : List Event
 sle_events = event Step 0 ∷ event Order 0 ∷ event Serve 0 ∷ event Step 0 ∷ event Step 0 ∷ []

@@ -1,5 +1,5 @@
--- A store in a section to a line that its hart may write sets the write bit and is not yet in memory; the commit brings it
--- there, makes the line modified and clears the bits.
+-- A store in a section to a line that its hart may write sets the write bit and is not yet in memory; the commit brings
+-- it there, makes the line modified and clears the bits.
 use Rattle.std.specs.Prelude.{slice_index_or}
 use Rattle.std.proofs.Common.{◌≡◌, List, [], ◌∷◌, true, false, refl}
 use Rattle.el_base.specs.LineAddr.{line_addr}
@@ -19,7 +19,10 @@ use Rattle.moesi.specs.declared.letter.Letter.TheVariants.{M, E}
 abbrev first : ModelState
 first =
     machine_of (settings 1 Sle 16 4 16 2000) 128 (
-    record { words = load_word 7 10 ∷ load_word 7 11 ∷ swap 7 5 10 ∷ store_byte 6 11 ∷ store_word 0 10 ∷ []; registers = usual } ∷ [])
+    record {
+      words = load_word 7 10 ∷ load_word 7 11 ∷ swap 7 5 10 ∷ store_byte 6 11 ∷ store_word 0 10 ∷ [];
+      registers = usual;
+    } ∷ [])
 
 abbrev events : List Event
 events =

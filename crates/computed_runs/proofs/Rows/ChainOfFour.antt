@@ -1,6 +1,6 @@
 -- Lock removal: hart 1 has written line B in its section, and harts 2, 3 and 0 wait for B in this order. Probes go up
--- the chain, until that of hart 0, which is the oldest, costs hart 1 its section; then harts 2 and 3, which were told of
--- hart 0, lose theirs as they become the next to have faced hart 0.
+-- the chain, until that of hart 0, which is the oldest, costs hart 1 its section; then harts 2 and 3, which were told
+-- of hart 0, lose theirs as they become the next to have faced hart 0.
 use Rattle.std.proofs.Common.{◌≡◌, List, [], ◌∷◌, refl}
 use Rattle.el_base.specs.LineAddr.{line_addr}
 use Rattle.el_base.specs.declared.config.Mode.TheVariants.{Tlr}

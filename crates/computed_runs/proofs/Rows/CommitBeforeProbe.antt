@@ -1,4 +1,5 @@
--- The chain of four, in which hart 1 commits before the probe of hart 0 reaches it: the probe is gone when hart 0 is served.
+-- The chain of four, in which hart 1 commits before the probe of hart 0 reaches it: the probe
+-- is gone when hart 0 is served.
 use Rattle.std.proofs.Common.{◌≡◌, List, [], ◌∷◌, refl}
 use Rattle.el_base.specs.LineAddr.{line_addr}
 use Rattle.el_base.specs.declared.config.Mode.TheVariants.{Tlr}

@@ -20,7 +20,8 @@ first =
     machine_of (settings 1 Sle 1 2 16 2000) 192 (
     record {
       words =
-          swap 7 5 10 ∷ load_word 7 11 ∷ store_word 0 10 ∷ swap 7 5 10 ∷ load_word 7 12 ∷ store_word 0 10 ∷ swap 7 5 10 ∷
+          swap 7 5 10 ∷ load_word 7 11 ∷ store_word 0 10 ∷ swap 7 5 10 ∷ load_word 7 12 ∷
+          store_word 0 10 ∷ swap 7 5 10 ∷
           load_word 7 11 ∷ load_word 7 12 ∷ [];
       registers = usual;
     } ∷ [])

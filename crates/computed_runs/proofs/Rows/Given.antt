@@ -8,7 +8,8 @@ use Rattle.elf_image.specs.Program.{CodeSegment}
 use Rattle.rv_alu.specs.declared.view.HartStatus.TheVariants.{Running}
 use Rattle.rv_alu.specs.declared.view.HartView.{HartView}
 
--- the words of the instructions that rows use, with the numbers of their registers; `at` is the register with the address
+-- the words of the instructions that rows use, with the numbers of their registers; `at`
+-- is the register with the address
 abbrev pub load_word : ℕ → ℕ → ℕ
 load_word rd at = 8195 + 128 * rd + 32768 * at
 
@@ -61,7 +62,8 @@ code_at h = 131072 + 4096 * h
 abbrev pub views_from : ℕ → List Worker → List HartView
 views_from h [] = []
 views_from h (worker ∷ workers) =
-    record { pc = code_at h; regs = patched (replicate 32 0) worker.registers; reserved = None; status = Running } ∷ views_from (suc h) workers
+    record { pc = code_at h; regs = patched (replicate 32 0) worker.registers; reserved = None; status = Running }
+    ∷ views_from (suc h) workers
 
 abbrev pub code_from : ℕ → List Worker → List CodeSegment
 code_from h [] = []

@@ -1,5 +1,5 @@
--- A hart that is armed with two instructions is let go as another hart's write to its line is ordered. The store takes its
--- reservation, so its own store conditional fails, and its register is 1.
+-- A hart that is armed with two instructions is let go as another hart's write to its line is ordered. The store takes
+-- its reservation, so its own store conditional fails, and its register is 1.
 use Rattle.std.proofs.Common.{◌≡◌, List, [], ◌∷◌, refl}
 use Rattle.std.specs.Prelude.{slice_index_or}
 use Rattle.el_base.specs.LineAddr.{line_addr}
@@ -11,7 +11,8 @@ use Rattle.el_base.specs.declared.outcomes.Outcome.{Outcome}
 use Rattle.el_base.specs.declared.outcomes.Outcome.TheVariants.{Missed, Ran, Buffered, Armed}
 use Rattle.computed_runs.proofs.Computing.{computing}
 use Rattle.computed_runs.proofs.Given.{event, ordered_with, served_with}
-use Rattle.computed_runs.proofs.Rows.Given.{load_reserved, machine_of, settings, skip_unless_same, store_conditional, store_word, usual}
+use Rattle.computed_runs.proofs.Rows.Given.{load_reserved, machine_of, settings, skip_unless_same, store_conditional}
+use Rattle.computed_runs.proofs.Rows.Given.{store_word, usual}
 use Rattle.el_model.specs.Next.{outcomes_from, state_after}
 use Rattle.el_model.specs.State.{ModelState}
 use Rattle.rv_flat.specs.FlatState.{view_of}
@@ -24,12 +25,14 @@ tlr =
 
 abbrev tlr_events : List Event
 tlr_events =
-    event Step 0 ∷ event Order 0 ∷ event Serve 0 ∷ event Step 0 ∷ event Step 0 ∷ event Step 1 ∷ event Order 1 ∷ event Serve 1 ∷
+    event Step 0 ∷ event Order 0 ∷ event Serve 0 ∷ event Step 0 ∷ event Step 0 ∷ event Step 1 ∷
+    event Order 1 ∷ event Serve 1 ∷
     event Step 1 ∷ event Step 0 ∷ []
 
 abbrev tlr_expected : List Outcome
 tlr_expected =
-    Missed (line_addr 1024) Read ∷ ordered_with [] [] ∷ served_with [] [] ∷ Armed ∷ Buffered ∷ Missed (line_addr 1024) Write ∷
+    Missed (line_addr 1024) Read ∷ ordered_with [] [] ∷ served_with [] [] ∷ Armed ∷ Buffered ∷
+    Missed (line_addr 1024) Write ∷
     ordered_with [] ((0, 2) ∷ []) ∷ served_with [] [] ∷ Ran ∷ Ran ∷ []
 
 tlr_outcomes : outcomes_from tlr tlr_events ≡ tlr_expected
@@ -48,12 +51,14 @@ sle =
 
 abbrev sle_events : List Event
 sle_events =
-    event Step 0 ∷ event Order 0 ∷ event Serve 0 ∷ event Step 0 ∷ event Step 0 ∷ event Step 1 ∷ event Order 1 ∷ event Serve 1 ∷
+    event Step 0 ∷ event Order 0 ∷ event Serve 0 ∷ event Step 0 ∷ event Step 0 ∷ event Step 1 ∷
+    event Order 1 ∷ event Serve 1 ∷
     event Step 1 ∷ event Step 0 ∷ []
 
 abbrev sle_expected : List Outcome
 sle_expected =
-    Missed (line_addr 1024) Read ∷ ordered_with [] [] ∷ served_with [] [] ∷ Armed ∷ Buffered ∷ Missed (line_addr 1024) Write ∷
+    Missed (line_addr 1024) Read ∷ ordered_with [] [] ∷ served_with [] [] ∷ Armed ∷ Buffered ∷
+    Missed (line_addr 1024) Write ∷
     ordered_with [] ((0, 2) ∷ []) ∷ served_with [] [] ∷ Ran ∷ Ran ∷ []
 
 sle_outcomes : outcomes_from sle sle_events ≡ sle_expected

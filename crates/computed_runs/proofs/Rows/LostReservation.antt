@@ -1,5 +1,6 @@
--- A hart is armed at its load reserved and let go at the load behind it. A section that commits takes its reservation on the
--- line of the section's lock, though it leaves the lock's word as it was: the store conditional fails, and its register is 1.
+-- A hart is armed at its load reserved and let go at the load behind it. A section that commits takes its
+-- reservation on the line of the section's lock, though it leaves the lock's word as it was: the store
+-- conditional fails, and its register is 1.
 use Rattle.std.specs.Prelude.{slice_index_or}
 use Rattle.std.proofs.Common.{◌≡◌, List, [], ◌∷◌, refl}
 use Rattle.el_base.specs.LineAddr.{line_addr}
@@ -11,7 +12,8 @@ use Rattle.el_base.specs.declared.outcomes.Outcome.{Outcome}
 use Rattle.el_base.specs.declared.outcomes.Outcome.TheVariants.{Missed, Ran, Began, Committed, Armed, LetGo}
 use Rattle.computed_runs.proofs.Computing.{computing}
 use Rattle.computed_runs.proofs.Given.{event, ordered_with, served_with}
-use Rattle.computed_runs.proofs.Rows.Given.{load_reserved, load_word, machine_of, settings, store_conditional, store_word, swap, usual}
+use Rattle.computed_runs.proofs.Rows.Given.{load_reserved, load_word, machine_of, settings, store_conditional}
+use Rattle.computed_runs.proofs.Rows.Given.{store_word, swap, usual}
 use Rattle.el_model.specs.Next.{outcomes_from, state_after}
 use Rattle.el_model.specs.State.{ModelState}
 use Rattle.rv_flat.specs.FlatState.{view_of}

@@ -18,23 +18,30 @@ tlr =
     machine_of (settings 1 Tlr 16 4 16 2000) 64 (
     record {
       words =
-          load_reserved 7 10 ∷ skip_unless_same 0 0 ∷ skip_unless_same 0 0 ∷ skip_unless_same 0 0 ∷ skip_unless_same 0 0 ∷
-          skip_unless_same 0 0 ∷ skip_unless_same 0 0 ∷ skip_unless_same 0 0 ∷ skip_unless_same 0 0 ∷ skip_unless_same 0 0 ∷
-          skip_unless_same 0 0 ∷ skip_unless_same 0 0 ∷ skip_unless_same 0 0 ∷ skip_unless_same 0 0 ∷ skip_unless_same 0 0 ∷
+          load_reserved 7 10 ∷ skip_unless_same 0 0 ∷ skip_unless_same 0 0 ∷ skip_unless_same 0 0 ∷
+          skip_unless_same 0 0 ∷
+          skip_unless_same 0 0 ∷ skip_unless_same 0 0 ∷ skip_unless_same 0 0 ∷ skip_unless_same 0 0 ∷
+          skip_unless_same 0 0 ∷
+          skip_unless_same 0 0 ∷ skip_unless_same 0 0 ∷ skip_unless_same 0 0 ∷ skip_unless_same 0 0 ∷
+          skip_unless_same 0 0 ∷
           skip_unless_same 0 0 ∷ [];
       registers = usual;
     } ∷ [])
 
 abbrev tlr_events : List Event
 tlr_events =
-    event Step 0 ∷ event Order 0 ∷ event Serve 0 ∷ event Step 0 ∷ event Step 0 ∷ event Step 0 ∷ event Step 0 ∷ event Step 0 ∷
-    event Step 0 ∷ event Step 0 ∷ event Step 0 ∷ event Step 0 ∷ event Step 0 ∷ event Step 0 ∷ event Step 0 ∷ event Step 0 ∷
+    event Step 0 ∷ event Order 0 ∷ event Serve 0 ∷ event Step 0 ∷ event Step 0 ∷ event Step 0 ∷
+    event Step 0 ∷ event Step 0 ∷
+    event Step 0 ∷ event Step 0 ∷ event Step 0 ∷ event Step 0 ∷ event Step 0 ∷ event Step 0 ∷
+    event Step 0 ∷ event Step 0 ∷
     event Step 0 ∷ event Step 0 ∷ event Step 0 ∷ event Step 0 ∷ []
 
 abbrev tlr_expected : List Outcome
 tlr_expected =
-    Missed (line_addr 1024) Read ∷ ordered_with [] [] ∷ served_with [] [] ∷ Armed ∷ Buffered ∷ Buffered ∷ Buffered ∷ Buffered ∷
-    Buffered ∷ Buffered ∷ Buffered ∷ Buffered ∷ Buffered ∷ Buffered ∷ Buffered ∷ Buffered ∷ Buffered ∷ Buffered ∷ LetGo 15 ∷ Ran ∷ []
+    Missed (line_addr 1024) Read ∷ ordered_with [] [] ∷ served_with [] [] ∷ Armed ∷ Buffered ∷ Buffered ∷
+    Buffered ∷ Buffered ∷
+    Buffered ∷ Buffered ∷ Buffered ∷ Buffered ∷ Buffered ∷ Buffered ∷ Buffered ∷ Buffered ∷ Buffered ∷ Buffered
+    ∷ LetGo 15 ∷ Ran ∷ []
 
 tlr_outcomes : outcomes_from tlr tlr_events ≡ tlr_expected
 unfolding computing
@@ -45,23 +52,30 @@ sle =
     machine_of (settings 1 Sle 16 4 16 2000) 64 (
     record {
       words =
-          load_reserved 7 10 ∷ skip_unless_same 0 0 ∷ skip_unless_same 0 0 ∷ skip_unless_same 0 0 ∷ skip_unless_same 0 0 ∷
-          skip_unless_same 0 0 ∷ skip_unless_same 0 0 ∷ skip_unless_same 0 0 ∷ skip_unless_same 0 0 ∷ skip_unless_same 0 0 ∷
-          skip_unless_same 0 0 ∷ skip_unless_same 0 0 ∷ skip_unless_same 0 0 ∷ skip_unless_same 0 0 ∷ skip_unless_same 0 0 ∷
+          load_reserved 7 10 ∷ skip_unless_same 0 0 ∷ skip_unless_same 0 0 ∷ skip_unless_same 0 0 ∷
+          skip_unless_same 0 0 ∷
+          skip_unless_same 0 0 ∷ skip_unless_same 0 0 ∷ skip_unless_same 0 0 ∷ skip_unless_same 0 0 ∷
+          skip_unless_same 0 0 ∷
+          skip_unless_same 0 0 ∷ skip_unless_same 0 0 ∷ skip_unless_same 0 0 ∷ skip_unless_same 0 0 ∷
+          skip_unless_same 0 0 ∷
           skip_unless_same 0 0 ∷ [];
       registers = usual;
     } ∷ [])
 
 abbrev sle_events : List Event
 sle_events =
-    event Step 0 ∷ event Order 0 ∷ event Serve 0 ∷ event Step 0 ∷ event Step 0 ∷ event Step 0 ∷ event Step 0 ∷ event Step 0 ∷
-    event Step 0 ∷ event Step 0 ∷ event Step 0 ∷ event Step 0 ∷ event Step 0 ∷ event Step 0 ∷ event Step 0 ∷ event Step 0 ∷
+    event Step 0 ∷ event Order 0 ∷ event Serve 0 ∷ event Step 0 ∷ event Step 0 ∷ event Step 0 ∷
+    event Step 0 ∷ event Step 0 ∷
+    event Step 0 ∷ event Step 0 ∷ event Step 0 ∷ event Step 0 ∷ event Step 0 ∷ event Step 0 ∷
+    event Step 0 ∷ event Step 0 ∷
     event Step 0 ∷ event Step 0 ∷ event Step 0 ∷ event Step 0 ∷ []
 
 abbrev sle_expected : List Outcome
 sle_expected =
-    Missed (line_addr 1024) Read ∷ ordered_with [] [] ∷ served_with [] [] ∷ Armed ∷ Buffered ∷ Buffered ∷ Buffered ∷ Buffered ∷
-    Buffered ∷ Buffered ∷ Buffered ∷ Buffered ∷ Buffered ∷ Buffered ∷ Buffered ∷ Buffered ∷ Buffered ∷ Buffered ∷ LetGo 15 ∷ Ran ∷ []
+    Missed (line_addr 1024) Read ∷ ordered_with [] [] ∷ served_with [] [] ∷ Armed ∷ Buffered ∷ Buffered ∷
+    Buffered ∷ Buffered ∷
+    Buffered ∷ Buffered ∷ Buffered ∷ Buffered ∷ Buffered ∷ Buffered ∷ Buffered ∷ Buffered ∷ Buffered ∷ Buffered
+    ∷ LetGo 15 ∷ Ran ∷ []
 
 sle_outcomes : outcomes_from sle sle_events ≡ sle_expected
 unfolding computing

@@ -27,8 +27,19 @@ abbrev first : ModelState
 first = record {
   config = settings 2 Plain 16 4 16 2000;
   committed = record {
-    harts = record { pc = 65620; regs = patched (replicate 32 0) ((10, 0) ∷ (11, 2) ∷ []); reserved = None; status = Running } ∷
-        record { pc = 65620; regs = patched (replicate 32 0) ((10, 1) ∷ (11, 2) ∷ []); reserved = None; status = Running } ∷ [];
+    harts =
+        record {
+          pc = 65620;
+          regs = patched (replicate 32 0) ((10, 0) ∷ (11, 2) ∷ []);
+          reserved = None;
+          status = Running;
+        } ∷
+        record {
+          pc = 65620;
+          regs = patched (replicate 32 0) ((10, 1) ∷ (11, 2) ∷ []);
+          reserved = None;
+          status = Running;
+        } ∷ [];
     base = 65536;
     bytes = patched (replicate 128 0) ((120, 65) ∷ (121, 10) ∷ []);
     code = record { start = 65620; bytes = bytes_of image } ∷ [];

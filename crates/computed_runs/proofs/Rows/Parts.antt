@@ -1,5 +1,5 @@
--- Two rules of the parts, at lists made for them: which line leaves a full set, and where a request goes in the order. Beside each stands a
--- wrong rule, and what it would come to.
+-- Two rules of the parts, at lists made for them: which line leaves a full set, and where a request goes in the order.
+-- Beside each stands a wrong rule, and what it would come to.
 use Rattle.std.proofs.Common.{◌≡◌, List, [], ◌∷◌, Option, None, Some, refl, true, false}
 use Rattle.bus_order.specs.Order.{Request, in_front_of}
 use Rattle.residency.specs.Residency.{Way, victim_in}
@@ -17,7 +17,8 @@ last_in [] = None
 last_in (way ∷ []) = Some way
 last_in (way ∷ next ∷ ways) = last_in (next ∷ ways)
 
-line_with_a_bit_leaves : (last_in full_set ≡ Some (way 2 S true false)) × (victim_in full_set ≡ Some (way 1 S false false))
+line_with_a_bit_leaves : (last_in full_set ≡ Some (way 2 S true false))
+    × (victim_in full_set ≡ Some (way 1 S false false))
 line_with_a_bit_leaves = (refl, refl)
 
 -- the requests of two harts for two lines, and a third hart's for the second line

@@ -18,7 +18,10 @@ use Rattle.el_model.specs.State.{ModelState}
 abbrev first : ModelState
 first =
     machine_of (settings 1 Sle 16 4 16 2) 64 (
-    record { words = swap 7 5 10 ∷ store_word 0 10 ∷ swap 7 5 10 ∷ load_word 7 10 ∷ store_word 0 10 ∷ []; registers = usual } ∷ [])
+    record {
+      words = swap 7 5 10 ∷ store_word 0 10 ∷ swap 7 5 10 ∷ load_word 7 10 ∷ store_word 0 10 ∷ [];
+      registers = usual;
+    } ∷ [])
 
 abbrev events : List Event
 events =

@@ -10,11 +10,13 @@ use Rattle.el_base.specs.declared.events.Kind.TheVariants.{Step, Order, Serve, D
 use Rattle.el_base.specs.declared.outcomes.Cause.TheVariants.{Room, Lines, Long, Call, Mixed}
 use Rattle.el_base.specs.declared.outcomes.Need.TheVariants.{Read, Write}
 use Rattle.el_base.specs.declared.outcomes.Outcome.{Outcome}
-use Rattle.el_base.specs.declared.outcomes.Outcome.TheVariants.{Idle, Stalled, Missed, Ran, Began, Buffered, Committed, RolledBack, Blocked}
+use Rattle.el_base.specs.declared.outcomes.Outcome.TheVariants.{Idle, Stalled, Missed, Ran, Began, Buffered, Committed}
+use Rattle.el_base.specs.declared.outcomes.Outcome.TheVariants.{RolledBack, Blocked}
 use Rattle.el_base.specs.declared.outcomes.Outcome.TheVariants.{Delivered, Armed, LetGo}
 use Rattle.el_base.specs.declared.outcomes.Why.TheVariants.{Behind, Retained, Locked}
 use Rattle.computed_runs.proofs.Computing.{computing}
-use Rattle.computed_runs.proofs.Given.{Ending, armed, ending_of, event, first_state, lost, ordered_with, patched, request, section, served_with}
+use Rattle.computed_runs.proofs.Given.{Ending, armed, ending_of, event, first_state, lost, ordered_with, patched}
+use Rattle.computed_runs.proofs.Given.{request, section, served_with}
 use Rattle.computed_runs.proofs.Given.{stamp, watch, way}
 use Rattle.el_model.specs.Next.{outcomes_from, state_after}
 use Rattle.el_model.specs.State.{Hart, ModelState}
@@ -139,7 +141,8 @@ last = record {
         clock = 4;
         seen = 0;
         attempt = None;
-        predictor = record { counters = (patched (replicate 64 2) ((4, 3) ∷ (8, 0) ∷ (16, 3) ∷ (21, 0) ∷ [])); watch = None };
+        predictor =
+            record { counters = (patched (replicate 64 2) ((4, 3) ∷ (8, 0) ∷ (16, 3) ∷ (21, 0) ∷ [])); watch = None };
       } ∷ record {
         section = None;
         armed = None;
@@ -155,7 +158,11 @@ last = record {
         clock = 5;
         seen = 0;
         attempt = None;
-        predictor = record { counters = (patched (replicate 64 2) ((4, 3) ∷ (8, 0) ∷ (16, 3) ∷ (19, 1) ∷ (21, 0) ∷ [])); watch = None };
+        predictor =
+            record {
+              counters = (patched (replicate 64 2) ((4, 3) ∷ (8, 0) ∷ (16, 3) ∷ (19, 1) ∷ (21, 0) ∷ []));
+              watch = None;
+            };
       } ∷ [];
   order = [];
   pcs = 131104 ∷ 131112 ∷ [];

@@ -11,11 +11,13 @@ use Rattle.el_base.specs.declared.events.Kind.TheVariants.{Step, Order, Serve, D
 use Rattle.el_base.specs.declared.outcomes.Cause.TheVariants.{Room, Lines, Long, Call, Mixed}
 use Rattle.el_base.specs.declared.outcomes.Need.TheVariants.{Read, Write}
 use Rattle.el_base.specs.declared.outcomes.Outcome.{Outcome}
-use Rattle.el_base.specs.declared.outcomes.Outcome.TheVariants.{Idle, Stalled, Missed, Ran, Began, Buffered, Committed, RolledBack, Blocked}
+use Rattle.el_base.specs.declared.outcomes.Outcome.TheVariants.{Idle, Stalled, Missed, Ran, Began, Buffered, Committed}
+use Rattle.el_base.specs.declared.outcomes.Outcome.TheVariants.{RolledBack, Blocked}
 use Rattle.el_base.specs.declared.outcomes.Outcome.TheVariants.{Delivered, Armed, LetGo}
 use Rattle.el_base.specs.declared.outcomes.Why.TheVariants.{Behind, Retained, Locked}
 use Rattle.computed_runs.proofs.Computing.{computing}
-use Rattle.computed_runs.proofs.Given.{Ending, armed, ending_of, event, first_state, lost, ordered_with, patched, request, section, served_with}
+use Rattle.computed_runs.proofs.Given.{Ending, armed, ending_of, event, first_state, lost, ordered_with, patched}
+use Rattle.computed_runs.proofs.Given.{request, section, served_with}
 use Rattle.computed_runs.proofs.Given.{stamp, watch, way}
 use Rattle.el_model.specs.Next.{outcomes_from, state_after}
 use Rattle.el_model.specs.State.{Hart, ModelState}
@@ -237,7 +239,8 @@ last = record {
         clock = 2;
         seen = 1;
         attempt = None;
-        predictor = record { counters = (patched (replicate 64 2) ((4, 3) ∷ [])); watch = (Some (watch 131124 65536 2 1)) };
+        predictor =
+            record { counters = (patched (replicate 64 2) ((4, 3) ∷ [])); watch = (Some (watch 131124 65536 2 1)) };
       } ∷ [];
   order = (request 0 1024 Write None) ∷ (request 1 1024 Read None) ∷ (request 2 1024 Read None) ∷ [];
   pcs = 131124 ∷ 131124 ∷ 131136 ∷ 131128 ∷ [];

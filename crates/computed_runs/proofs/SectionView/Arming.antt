@@ -1,6 +1,7 @@
--- One hart arms at an LR, writes over its register, and comes to its SC: its view and the value that the LR found keep its run, and the live
--- section that it becomes begins with them. What the laws do not say is refuted on the same run.
-use Rattle.std.proofs.Common.{◌≡◌, ◌≤◌, ◌<◌, ◌+◌, ◌*◌, ℕ, zero, suc, true, false, List, [], ◌∷◌, None, Some, arith, refl, replicate, subst, sym, ap}
+-- One hart arms at an LR, writes over its register, and comes to its SC: its view and the value that the LR found keep
+-- its run, and the live section that it becomes begins with them. What the laws do not say is refuted on the same run.
+use Rattle.std.proofs.Common.{◌≡◌, ◌≤◌, ◌<◌, ◌+◌, ◌*◌, ℕ, zero, suc, true, false, List, [], ◌∷◌, None, Some, arith}
+use Rattle.std.proofs.Common.{refl, replicate, subst, sym, ap}
 use Rattle.residency.specs.Residency.{Way}
 use Rattle.computed_runs.proofs.Computing.{computing}
 use Rattle.computed_runs.proofs.Given.{patched, section, way}
@@ -96,7 +97,8 @@ armed_twice = record {
   reserve = reserve;
   read = refl;
   running = running;
-  quiet = λ n some less. let one : 1 ≡ n = omega arith in subst (λ n. is_quiet (alone committed 0 n) 0 ≡ true) one quiet;
+  quiet =
+      λ n some less. let one : 1 ≡ n = omega arith in subst (λ n. is_quiet (alone committed 0 n) 0 ≡ true) one quiet;
 }
 
 completes : next_conditional (alone committed 0 2) 0 ≡ Some lock
@@ -114,7 +116,8 @@ third = record second { pc = 131084; reserved = None }
 elided : IsElided committed 0 (armed 2) 0 lock third
 unfolding computing
 elided =
-    armed_elides committed 0 cache (armed 2) 0 second lock (rd_of (store_conditional 8 5 10)) 65536 1 armed_twice gone_on completes refl stores
+    armed_elides committed 0 cache (armed 2) 0 second lock (rd_of (store_conditional 8 5 10)) 65536 1 armed_twice
+    gone_on completes refl stores
 
 lives_on : KeepsRun committed 0 (section 3 65536 0 1) third []
 lives_on = elided.keeps

@@ -1,5 +1,5 @@
--- One hart elides a lock, stores a byte, and comes to its release: its view and a hold of that byte keep its run, and it takes effect.
--- What the laws do not say is refuted on the same run.
+-- One hart elides a lock, stores a byte, and comes to its release: its view and a hold of that byte keep its run, and
+-- it takes effect. What the laws do not say is refuted on the same run.
 use Rattle.std.proofs.Common.{◌≡◌, ◌≤◌, ◌<◌, ◌+◌, ◌-◌, ◌*◌, ◌/◌, ◌%◌, ◌^◌, ◌∙◌, ◌&&◌, ◌==◌, ℕ, zero, suc, Bool, true}
 use Rattle.std.proofs.Common.{false, List, [], ◌∷◌, Option, None, Some, nat_le, nat_lt}
 use Rattle.std.proofs.Common.{arith, refl, ap, sym, inl, inr, ◌⊎◌, if◌then◌else◌, replicate, option_and_then, subst}
@@ -107,7 +107,8 @@ found_line test = if test then Some stored_line else None
 not_stored : (place : ℕ) → 1 ≤ place → stored_at stored_line place ≡ None
 not_stored place some =
     let outside : (nat_le 0 place && nat_lt place (0 + 1)) ≡ false = grind (arith, nat_tests) in
-    ap (λ test. if test then Some (slice_index stored_line.bytes place) else None) (mask_of_places 0 1 (omega arith) place ∙ outside)
+    ap (λ test. if test then Some (slice_index stored_line.bytes place) else None)
+    (mask_of_places 0 1 (omega arith) place ∙ outside)
 
 put_address : (address : ℕ) → held (stored_line ∷ []) address ≡ laid 65600 (5 ∷ []) address (held [] address)
 put_address address = by (cases_eq address 65600)
@@ -117,7 +118,8 @@ put_address address = by (cases_eq address 65600)
     other_place other false is = refl
     other_place other true is = not_stored (address % 64) (grind (arith, nat_tests))
 
-    laid_nothing : (address ≡ 65600 → ⊥) → (address < 65600) ⊎ (65601 ≤ address) → laid 65600 (5 ∷ []) address None ≡ None
+    laid_nothing : (address ≡ 65600 → ⊥) → (address < 65600) ⊎ (65601 ≤ address) →
+        laid 65600 (5 ∷ []) address None ≡ None
     laid_nothing other (inl below) = laid_below 65600 (5 ∷ []) address None below
     laid_nothing other (inr above) = laid_above 65600 (5 ∷ []) address None above
 
@@ -125,7 +127,8 @@ put_address address = by (cases_eq address 65600)
     side other true is = inl (grind (arith, nat_tests))
     side other false is = inr (grind (arith, nat_tests))
 
-    by : (address ≡ 65600) ⊎ (address ≡ 65600 → ⊥) → held (stored_line ∷ []) address ≡ laid 65600 (5 ∷ []) address (held [] address)
+    by : (address ≡ 65600) ⊎ (address ≡ 65600 → ⊥) →
+        held (stored_line ∷ []) address ≡ laid 65600 (5 ∷ []) address (held [] address)
     by (inl same) = rw same refl
     by (inr other) =
         ap (λ test. option_and_then (λ entry. stored_at entry (address % 64)) (found_line test)) refl
@@ -159,7 +162,8 @@ second = record first { pc = 131080 }
 kept : KeepsRun committed 0 (section 2 65536 0 1) second (stored_line ∷ [])
 unfolding computing
 kept =
-    (goes_on committed 0 cache cache (section 1 65536 0 1) first empty one_line under covered_once begun (λ address there outside. refl)
+    (goes_on committed 0 cache cache (section 1 65536 0 1) first empty one_line under covered_once begun
+    (λ address there outside. refl)
     covered_step stored).keeps
 
 -- and at its release it takes effect, over any bytes
@@ -170,7 +174,8 @@ covered_twice = record {
   acquire = acquire;
   read = refl;
   running = running;
-  inside = λ n from less. let one : 1 ≡ n = omega arith in subst (λ n. IsCoveredStep (alone committed 0 n) 0 65536 cache) one covered_step;
+  inside = λ n from less. let one : 1 ≡ n = omega arith in
+      subst (λ n. IsCoveredStep (alone committed 0 n) 0 65536 cache) one covered_step;
 }
 
 release : is_release (alone committed 0 2) 0 65536 0 ≡ true
@@ -188,7 +193,9 @@ third = record first { pc = 131084 }
 
 effect : HasEffect committed (alone committed 0 3) 0 65536 third (stored_line ∷ [])
 unfolding computing
-effect = commits committed 0 cache (section 2 65536 0 1) second (stored_line ∷ []) (λ address. 7) zeros covered_twice kept release
+effect =
+    commits committed 0 cache (section 2 65536 0 1) second (stored_line ∷ []) (λ address. 7) zeros
+    covered_twice kept release
 
 -- so the stored byte is committed then, and the lock word is free
 stored_is_committed : slice_index (alone committed 0 3).bytes 64 ≡ 5
@@ -214,7 +221,8 @@ kept_a_step_longer keeps = differ 131084 131080 (omega arith) (sym (ap (λ view.
 abbrev lock_line : Entry
 lock_line = record { line = 1024; mask = mask; bytes = 1 ∷ replicate 63 0 }
 
-lock_word_held : (count : ℕ) (view : HartView) → KeepsRun committed 0 (section count 65536 0 1) view (lock_line ∷ []) → ⊥
+lock_word_held : (count : ℕ) (view : HartView) → KeepsRun committed 0 (section count 65536 0 1) view (lock_line ∷ []) →
+    ⊥
 lock_word_held count view keeps = none_some (keeps.free 65536 (omega arith) (omega arith))
   where
     none_some : {byte : ℕ} → Some byte ≡ None → ⊥

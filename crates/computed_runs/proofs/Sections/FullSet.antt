@@ -1,4 +1,5 @@
--- a program that comes to a full set of which each line has a bit: the lines that a hart waits for have room, and others have none
+-- a program that comes to a full set of which each line has a bit: the lines that a hart waits for
+-- have room, and others have none
 use Rattle.std.proofs.Common.{◌≡◌, ◌∙◌, ℕ, true, false, List, [], ◌∷◌, replicate, refl, sym, arith}
 use Rattle.residency.specs.Cache.{room_of}
 use Rattle.el_base.specs.Config.{IsInRange}
@@ -64,8 +65,8 @@ other_has_none = refl
 -- so it is not so that each line has room in each cache: the law of waiting lines says it of those alone
 abbrev EachLineHasRoom : Type 0
 EachLineHasRoom =
-    (program : Program) (config : Config) (events : List Event) (h line : ℕ) → program.harts ≡ config.harts → IsInRange config →
-    room_of config.ways (cache_of (after program config events) h) line ≡ true
+    (program : Program) (config : Config) (events : List Event) (h line : ℕ) → program.harts ≡ config.harts →
+    IsInRange config → room_of config.ways (cache_of (after program config events) h) line ≡ true
 
 refuted : EachLineHasRoom → ⊥
 refuted each = never (sym other_has_none ∙ each program config events 0 1025 refl in_range)

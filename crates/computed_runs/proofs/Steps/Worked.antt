@@ -1,5 +1,5 @@
--- The laws at worked values: a section and a watch at their longest, a clock that grows, a section that is lost, and one that
--- survives. What the laws do not say is refuted on the same runs.
+-- The laws at worked values: a section and a watch at their longest, a clock that grows, a section that is lost, and
+-- one that survives. What the laws do not say is refuted on the same runs.
 use Rattle.std.proofs.Common.{◌≡◌, ◌<◌, ℕ, List, [], ◌∷◌, None, Some, true, refl, ap, sym, ◌∙◌, arith}
 use Rattle.residency.specs.Cache.{letter_of, read_bit}
 use Rattle.el_base.specs.LineAddr.{line_addr}
@@ -17,7 +17,8 @@ use Rattle.el_model.specs.Next.{next, outcomes_from, state_after}
 use Rattle.el_model.specs.State.{ModelState, cache_of, hart_of, section_of}
 use Rattle.moesi.specs.declared.letter.Letter.TheVariants.{E, S}
 
--- one hart, whose sections may have two instructions: its section comes to its longest and is rolled back, and its swap runs then
+-- one hart, whose sections may have two instructions: its section comes to its longest and is
+-- rolled back, and its swap runs then
 abbrev alone_first : ModelState
 alone_first =
     machine_of (settings 1 Tlr 16 4 16 2) 192 (
@@ -25,7 +26,8 @@ alone_first =
 
 abbrev to_its_longest : List Event
 to_its_longest =
-    event Step 0 ∷ event Order 0 ∷ event Serve 0 ∷ event Step 0 ∷ event Step 0 ∷ event Order 0 ∷ event Serve 0 ∷ event Step 0 ∷ []
+    event Step 0 ∷ event Order 0 ∷ event Serve 0 ∷ event Step 0 ∷ event Step 0 ∷ event Order 0 ∷ event Serve 0
+    ∷ event Step 0 ∷ []
 
 to_its_longest_outcomes : outcomes_from alone_first to_its_longest
     ≡ Missed (line_addr 1024) Read ∷ ordered_with [] [] ∷ served_with [] [] ∷ Began ∷ Missed (line_addr 1025) Write

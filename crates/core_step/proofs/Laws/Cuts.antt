@@ -1,5 +1,6 @@
 -- bytes cut out of a longer number
-use Rattle.std.proofs.Common.{◌≡◌, ℕ, zero, suc, ◌+◌, ◌-◌, ◌*◌, ◌/◌, ◌%◌, ◌^◌, ◌≤◌, ◌<◌, ◌∙◌, inl, inr, ap, arith, lit<, refl, sym}
+use Rattle.std.proofs.Common.{◌≡◌, ℕ, zero, suc, ◌+◌, ◌-◌, ◌*◌, ◌/◌, ◌%◌, ◌^◌, ◌≤◌, ◌<◌, ◌∙◌, inl, inr, ap, arith, lit<}
+use Rattle.std.proofs.Common.{refl, sym}
 use Rattle.std.proofs.Math.Arith.{mod-mul}
 use Rattle.std.proofs.Math.Nat.{div-div-eq-div-mul, pow-suc}
 use Rattle.rv_alu.specs.Footprint.{IsSize}
@@ -26,14 +27,17 @@ bytes-rest : (byte : ℕ → ℕ) (start n : ℕ) → AreBytes byte start (suc n
 bytes-rest byte start n bytes at low high = bytes at (omega arith) (omega arith)
 
 -- the low bytes of a longer number
-loaded-low : (byte : ℕ → ℕ) (start len n : ℕ) → AreBytes byte start n → len ≤ n → loaded byte start n % 256 ^ len ≡ loaded byte start len
+loaded-low : (byte : ℕ → ℕ) (start len n : ℕ) → AreBytes byte start n → len ≤ n →
+    loaded byte start n % 256 ^ len ≡ loaded byte start len
 loaded-low byte start zero n bytes h = omega arith
 loaded-low byte start (suc len) zero bytes h = absurd (omega arith)
 loaded-low byte start (suc len) (suc n) bytes h =
     let first : byte start < 256 = bytes start (omega arith) (omega arith) in
     let rest : ℕ = loaded byte (start + 1) n in
-    let low : rest % 256 ^ len ≡ loaded byte (start + 1) len = loaded-low byte (start + 1) len n (bytes-rest byte start n bytes) (omega arith) in
-    let split : (byte start + 256 * rest) % (256 ^ len * 256) ≡ (byte start + 256 * rest) / 256 % 256 ^ len * 256 + (byte start + 256 * rest) % 256 =
+    let low : rest % 256 ^ len ≡ loaded byte (start + 1) len =
+    loaded-low byte (start + 1) len n (bytes-rest byte start n bytes) (omega arith) in
+    let split : (byte start + 256 * rest) % (256 ^ len * 256) ≡ (byte start + 256 * rest) / 256 % 256 ^ len * 256
+    + (byte start + 256 * rest) % 256 =
     mod-mul (byte start + 256 * rest) (pow_256_pos len) (lit< tt) in
     let over : (byte start + 256 * rest) / 256 ≡ rest = omega arith in
     let under : (byte start + 256 * rest) % 256 ≡ byte start = omega arith in
@@ -58,14 +62,17 @@ loaded-high byte start (suc place) m (suc n) h bytes =
     let there : start + 1 + place ≡ start + suc place = omega arith in
     ap (λ power. (byte start + 256 * rest) / power) more
     ∙ sym (div-div-eq-div-mul (byte start + 256 * rest) 256 (256 ^ place)) ∙ ap (λ high. high / 256 ^ place) over
-    ∙ loaded-high byte (start + 1) place m n (omega arith) (bytes-rest byte start n bytes) ∙ ap (λ from. loaded byte from m) there
+    ∙ loaded-high byte (start + 1) place m n (omega arith) (bytes-rest byte start n bytes)
+    ∙ ap (λ from. loaded byte from m) there
 
 -- what is loaded from a place in an aligned word
 pub cut_loaded : (byte : ℕ → ℕ) (start place len address : ℕ) → place + len ≤ 4 → start + place ≡ address →
-    ((at : ℕ) → start ≤ at → at < start + 4 → byte at < 256) → loaded byte start 4 / 256 ^ place % 256 ^ len ≡ loaded byte address len
+    ((at : ℕ) → start ≤ at → at < start + 4 → byte at < 256) →
+    loaded byte start 4 / 256 ^ place % 256 ^ len ≡ loaded byte address len
 cut_loaded byte start place len address inside is bytes =
     ap (λ high. high % 256 ^ len) (loaded-high byte start place (4 - place) 4 (omega arith) bytes)
-    ∙ loaded-low byte (start + place) len (4 - place) (λ at low high. bytes at (omega arith) (omega arith)) (omega arith)
+    ∙ loaded-low byte (start + place) len (4 - place)
+    (λ at low high. bytes at (omega arith) (omega arith)) (omega arith)
     ∙ ap (λ from. loaded byte from len) is
 
 -- an aligned piece of such a size is inside of one aligned word

@@ -12,8 +12,10 @@ pub none_stored : (byte : ℕ → ℕ) (from value address : ℕ) → byte addre
 none_stored byte from value address = grind (arith, nat_tests)
 
 -- one byte more
-pub one_more_stored : (line : ℕ) (before now : List ℕ) (from n next value address : ℕ) → length now ≡ LINE_BYTES → line_number from ≡ line →
-    from % LINE_BYTES + n < LINE_BYTES → next ≡ n + 1 →
+pub one_more_stored : (line : ℕ) (before now : List ℕ) (from n next value address : ℕ) → length now ≡ LINE_BYTES →
+    line_number from ≡ line → from % LINE_BYTES + n < LINE_BYTES → next ≡ n + 1 →
     byte_in_line line now address ≡ stored (byte_in_line line before) from n value address →
-    byte_in_line line (slice_set now (from % LINE_BYTES + n) (byte_of value n)) address ≡ stored (byte_in_line line before) from next value address
-one_more_stored line before now from n next value address size there inside more so_far = grind (arith, common_steps, nat_tests)
+    byte_in_line line (slice_set now (from % LINE_BYTES + n) (byte_of value n)) address
+    ≡ stored (byte_in_line line before) from next value address
+one_more_stored line before now from n next value address size there inside more so_far =
+    grind (arith, common_steps, nat_tests)

@@ -27,9 +27,11 @@ has_excluded_own (first ∷ harts) hart = step (first == hart) refl (has_exclude
     step true is rest = rest
     step false is rest = ap (λ test. cond test true (has (excluded harts hart) hart)) is ∙ rest
 
-pub has_excluded_other : (harts : List ℕ) (gone hart : ℕ) → gone ≢ hart → has (excluded harts gone) hart ≡ has harts hart
+pub has_excluded_other : (harts : List ℕ) (gone hart : ℕ) → gone ≢ hart →
+    has (excluded harts gone) hart ≡ has harts hart
 has_excluded_other [] gone hart differ = refl
-has_excluded_other (first ∷ harts) gone hart differ = step (first == gone) refl (has_excluded_other harts gone hart differ)
+has_excluded_other (first ∷ harts) gone hart differ =
+    step (first == gone) refl (has_excluded_other harts gone hart differ)
   where
     not_it : (first == gone) ≡ true → (first == hart) ≡ false
     not_it own = let one : first ≡ gone = grind (arith, nat_tests) in grind (arith, nat_tests)

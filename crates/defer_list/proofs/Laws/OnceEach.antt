@@ -1,4 +1,5 @@
--- No hart is in a set twice, so that a place for each hart is enough; and what the calls do to the list that the code keeps.
+-- No hart is in a set twice, so that a place for each hart is enough; and what the calls do
+-- to the list that the code keeps.
 use Rattle.std.proofs.Common.{◌≡◌, ℕ, ◌+◌, ◌<◌, ◌≤◌, ◌==◌, not, Bool, true, false, cond, List}
 use Rattle.std.proofs.Common.{[], ◌∷◌, length, refl, ap, sym, ◌∙◌, arith}
 use Rattle.std.specs.List.{count_by, filter}
@@ -11,7 +12,8 @@ use Rattle.defer_list.specs.HartSet.{has, included, excluded, numbers, IsOnceEac
 abbrev count_of : List ℕ → ℕ → ℕ
 count_of harts hart = count_by (λ other. other == hart) harts
 
-count_of_cons : (first : ℕ) (harts : List ℕ) (hart : ℕ) → count_of (first ∷ harts) hart ≡ cond (first == hart) 1 0 + count_of harts hart
+count_of_cons : (first : ℕ) (harts : List ℕ) (hart : ℕ) →
+    count_of (first ∷ harts) hart ≡ cond (first == hart) 1 0 + count_of harts hart
 count_of_cons first harts hart = sum_by-cons (λ other. cond (other == hart) 1 0) first harts
 
 count_of_absent : (harts : List ℕ) (hart : ℕ) → has harts hart ≡ false → count_of harts hart ≡ 0
@@ -42,7 +44,8 @@ count_of_excluded (first ∷ harts) gone hart = step (first == gone) (count_of_e
     step : (own : Bool) → count_of (excluded harts gone) hart ≤ count_of harts hart
         → count_of (cond own (excluded harts gone) (first ∷ excluded harts gone)) hart ≤ count_of (first ∷ harts) hart
     step true rest = omega (arith, rest, count_of_cons first harts hart)
-    step false rest = omega (arith, rest, count_of_cons first harts hart, count_of_cons first (excluded harts gone) hart)
+    step false rest =
+        omega (arith, rest, count_of_cons first harts hart, count_of_cons first (excluded harts gone) hart)
 
 pub once_each_excluded : (harts : List ℕ) (gone : ℕ) → IsOnceEach harts → IsOnceEach (excluded harts gone)
 once_each_excluded harts gone once hart = omega (arith, count_of_excluded harts gone hart, once hart)
@@ -52,7 +55,8 @@ pub excluded_absent : (harts : List ℕ) (hart : ℕ) → has harts hart ≡ fal
 excluded_absent [] hart none = refl
 excluded_absent (first ∷ harts) hart none = step (first == hart) none (excluded_absent harts hart)
   where
-    step : (own : Bool) → cond own true (has harts hart) ≡ false → (has harts hart ≡ false → excluded harts hart ≡ harts)
+    step : (own : Bool) → cond own true (has harts hart) ≡ false →
+        (has harts hart ≡ false → excluded harts hart ≡ harts)
         → cond own (excluded harts hart) (first ∷ excluded harts hart) ≡ first ∷ harts
     step true none rest = absurd cc
     step false none rest = ap (λ l. first ∷ l) (rest none)
@@ -70,7 +74,8 @@ excluded_filter (first ∷ harts) hart = step (first == hart) (excluded_filter h
     step false rest = ap (λ l. first ∷ l) rest
 
 -- one more
-pub fits_one : (items : List Origin) (new : Origin) → IsOnceEach (numbers items) → has (numbers items) new.hart.number ≡ false → length items < 8
+pub fits_one : (items : List Origin) (new : Origin) → IsOnceEach (numbers items) →
+    has (numbers items) new.hart.number ≡ false → length items < 8
 fits_one items new once none =
     let joined : IsOnceEach (numbers (new ∷ items)) = once_each_cons (numbers items) new.hart.number once none in
     let all : length (new ∷ items) ≤ 8 =
@@ -89,6 +94,8 @@ known_included items new there = sym (ap (λ there. cond there (numbers items) (
 
 -- and one less
 module _ (items : List Origin) (hart : ℕ) where
-  pub filter_excluded : numbers (filter (λ other. not (other.hart.number == hart)) items) ≡ excluded (numbers items) hart
+  pub filter_excluded : numbers (filter (λ other. not (other.hart.number == hart)) items)
+      ≡ excluded (numbers items) hart
   filter_excluded =
-      sym (excluded_filter (numbers items) hart ∙ filter_of_map (λ one. one.hart.number) (λ other. not (other == hart)) items)
+      sym (excluded_filter (numbers items) hart ∙ filter_of_map (λ one. one.hart.number)
+      (λ other. not (other == hart)) items)

@@ -1,5 +1,6 @@
 -- Setting and clearing a bit of a byte, as tests on bits.
-use Rattle.std.proofs.Common.{◌≡◌, ◌≢◌, ℕ, ◌-◌, ◌*◌, ◌%◌, ◌^◌, ◌<◌, ◌==◌, ◌||◌, ◌&&◌, not, bit_and, bit_or, max, min, arith, lit<, w8}
+use Rattle.std.proofs.Common.{◌≡◌, ◌≢◌, ℕ, ◌-◌, ◌*◌, ◌%◌, ◌^◌, ◌<◌, ◌==◌, ◌||◌, ◌&&◌, not, bit_and, bit_or, max, min}
+use Rattle.std.proofs.Common.{arith, lit<, w8}
 use Rattle.std.specs.Int.{bit_at}
 use Rattle.std.proofs.Math.Pow.{shl_exact}
 use Rattle.std.proofs.lemmas.Bool.Decides.{nat_tests}

@@ -1,6 +1,7 @@
 -- The order of the harts that an event let go, hart by hart.
 use Rattle.std.specs.List.{flat_map, range_with_len}
-use Rattle.std.proofs.Common.{◌≡◌, ℕ, ◌+◌, List, [], ◌∷◌, ◌++◌, length, replicate, append-nil, length-append, refl, ap, ◌∙◌, suc, arith}
+use Rattle.std.proofs.Common.{◌≡◌, ℕ, ◌+◌, List, [], ◌∷◌, ◌++◌, length, replicate, append-nil, length-append, refl, ap}
+use Rattle.std.proofs.Common.{◌∙◌, suc, arith}
 use Rattle.std.proofs.lemmas.Grind.{flat_map-append}
 use Rattle.std.proofs.lemmas.List.{length-replicate}
 use Rattle.el_base.specs.Freed.{count_in, no_one_freed, order_below, order_of}

@@ -9,7 +9,8 @@ use Rattle.el_base.proofs.Belows.{below_inside}
 pub same_hart : (a b : HartId) → a.number ≡ b.number → a ≡ b
 same_hart a b same =
     let P : ℕ → Type 0 = λ n. (small : n < 8) → a ≡ record { number = n; small = small } in
-    subst P same (λ small. ap (λ (fact : a.number < 8). record { number = a.number; small = fact }) (le_prop a.small small)) b.small
+    subst P same
+    (λ small. ap (λ (fact : a.number < 8). record { number = a.number; small = fact }) (le_prop a.small small)) b.small
 
 -- a number below 8 comes back
 pub hart_id-number : (n : ℕ) → n < 8 → (hart_id n).number ≡ n

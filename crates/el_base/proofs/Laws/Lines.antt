@@ -10,7 +10,9 @@ use Rattle.el_base.proofs.Belows.{below_inside}
 pub same_line : (a b : LineAddr) → a.number ≡ b.number → a ≡ b
 same_line a b same =
     let P : ℕ → Type 0 = λ n. (small : n < 2 ^ 26) → a ≡ record { number = n; small = small } in
-    subst P same (λ small. ap (λ (fact : a.number < 2 ^ 26). record { number = a.number; small = fact }) (le_prop a.small small)) b.small
+    subst P same
+    (λ small. ap (λ (fact : a.number < 2 ^ 26). record { number = a.number; small = fact }) (le_prop a.small small))
+    b.small
 
 -- a number below 2 ^ 26 comes back
 pub line_addr-number : (n : ℕ) → n < 2 ^ 26 → (line_addr n).number ≡ n

@@ -1,8 +1,10 @@
 -- Look-ups, filters, places and counts of lists: what std's lemmas leave out.
-use Rattle.std.proofs.Common.{◌≡◌, ℕ, zero, suc, ◌+◌, ◌<◌, ◌≤◌, ◌==◌, nat_lt, Bool, true, false, not, cond, List, [], ◌∷◌, ◌++◌, length, map, reverse}
+use Rattle.std.proofs.Common.{◌≡◌, ℕ, zero, suc, ◌+◌, ◌<◌, ◌≤◌, ◌==◌, nat_lt, Bool, true, false, not, cond, List, []}
+use Rattle.std.proofs.Common.{◌∷◌, ◌++◌, length, map, reverse}
 use Rattle.std.proofs.Common.{take, drop, None, Some, refl, ap, sym, ◌∙◌, le_refl, arith}
 use Rattle.std.proofs.Common.{◌⊎◌, inl, inr, get_or}
-use Rattle.std.specs.List.{find, filter, list_any, count_by, prefix_len, position, position_or_len, slice_get, insert, remove}
+use Rattle.std.specs.List.{find, filter, list_any, count_by, prefix_len, position, position_or_len, slice_get, insert}
+use Rattle.std.specs.List.{remove}
 use Rattle.std.specs.List.{range_with_len}
 use Rattle.std.specs.Option.{option_map, unwrap_or}
 use Rattle.std.proofs.lemmas.List.{reverse-append}
@@ -70,7 +72,8 @@ module _ {X Y : Type 0} (f : X → Y) where
   pub reverse_of_map : (xs : List X) → reverse (map f xs) ≡ map f (reverse xs)
   reverse_of_map [] = refl
   reverse_of_map (x ∷ xs) =
-      reverse-append (f x ∷ []) (map f xs) ∙ ap (λ l. l ++ f x ∷ []) (reverse_of_map xs) ∙ append_of_map (reverse xs) (x ∷ [])
+      reverse-append (f x ∷ []) (map f xs) ∙ ap (λ l. l ++ f x ∷ []) (reverse_of_map xs)
+      ∙ append_of_map (reverse xs) (x ∷ [])
       ∙ sym (ap (map f) (reverse-append (x ∷ []) xs))
 
   pub insert_of_map : (xs : List X) (i : ℕ) (x : X) → insert (map f xs) i (f x) ≡ map f (insert xs i x)
@@ -101,7 +104,8 @@ module _ {X : Type 0} (p : X → Bool) (xs : List X) where
 
   pub place_or_length : unwrap_or (position p xs) (length xs) ≡ position_or_len p xs
   place_or_length =
-      or_length (nat_lt (position_or_len p xs) (length xs)) (position_or_len p xs) (λ past. grind (arith, nat_tests, place_within))
+      or_length (nat_lt (position_or_len p xs) (length xs)) (position_or_len p xs)
+      (λ past. grind (arith, nat_tests, place_within))
 
   pub place_by_position : (i : ℕ) → position p xs ≡ Some i → (position_or_len p xs ≡ i) × (i < length xs)
   place_by_position i found =
@@ -161,8 +165,10 @@ filter_of_filter p q (x ∷ xs) = step (p x) (q x) refl refl (filter_of_filter p
     step : (first second : Bool) → p x ≡ first → q x ≡ second → filter p (filter q xs) ≡ filter q (filter p xs)
         → filter p (cond second (x ∷ filter q xs) (filter q xs)) ≡ filter q (cond first (x ∷ filter p xs) (filter p xs))
     step true true p_is q_is rest =
-        (λ i. cond (p_is i) (x ∷ rest i) (rest i)) ∙ sym (λ i. cond (q_is i) (x ∷ filter q (filter p xs)) (filter q (filter p xs)))
-    step true false p_is q_is rest = rest ∙ sym (λ i. cond (q_is i) (x ∷ filter q (filter p xs)) (filter q (filter p xs)))
+        (λ i. cond (p_is i) (x ∷ rest i) (rest i))
+        ∙ sym (λ i. cond (q_is i) (x ∷ filter q (filter p xs)) (filter q (filter p xs)))
+    step true false p_is q_is rest =
+        rest ∙ sym (λ i. cond (q_is i) (x ∷ filter q (filter p xs)) (filter q (filter p xs)))
     step false true p_is q_is rest = (λ i. cond (p_is i) (x ∷ rest i) (rest i))
     step false false p_is q_is rest = rest
 
@@ -173,10 +179,15 @@ module _ {X : Type 0} (code : X → ℕ) where
   one_code_more a n s t u rest = grind (arith, nat_tests)
 
   codes_upto : (n : ℕ) (xs : List X)
-      → count_by (λ x. nat_lt (code x) (suc n)) xs ≤ count_by (λ x. nat_lt (code x) n) xs + count_by (λ x. code x == n) xs
+      → count_by (λ x. nat_lt (code x) (suc n)) xs ≤ count_by (λ x. nat_lt (code x) n)
+      xs + count_by (λ x. code x == n) xs
   codes_upto n [] = omega arith
   codes_upto n (x ∷ xs) =
-      rw (sum_by-cons _ x xs, sum_by-cons (λ y. cond (nat_lt (code y) n) 1 0) x xs, sum_by-cons (λ y. cond (code y == n) 1 0) x xs)
+      rw (
+        sum_by-cons _ x xs,
+        sum_by-cons (λ y. cond (nat_lt (code y) n) 1 0) x xs,
+        sum_by-cons (λ y. cond (code y == n) 1 0) x xs,
+      )
       (one_code_more (code x) n _ _ _ (codes_upto n xs))
 
   none_below_zero : (xs : List X) → count_by (λ x. nat_lt (code x) 0) xs ≡ 0

@@ -1,5 +1,6 @@
 -- What losers and freed harts that are made of a map say.
-use Rattle.std.proofs.Common.{◌≡◌, ℕ, ◌≤◌, ◌<◌, Option, Some, None, get_or, refl, arith, ap, ◌∙◌, min, zero, suc, Bool, true, false, sym}
+use Rattle.std.proofs.Common.{◌≡◌, ℕ, ◌≤◌, ◌<◌, Option, Some, None, get_or, refl, arith, ap, ◌∙◌, min, zero, suc, Bool}
+use Rattle.std.proofs.Common.{true, false, sym}
 use Rattle.std.specs.Prelude.{IfSome, if◌then◌else◌, nat_lt, slice_index}
 use Rattle.std.proofs.lemmas.Bool.{ltb-true, ltb-false}
 use Rattle.std.proofs.lemmas.Bool.Decides.{nat_tests}
@@ -34,7 +35,8 @@ at_its_place map d (suc (suc (suc (suc (suc (suc (suc zero))))))) low = refl
 at_its_place map d (suc (suc (suc (suc (suc (suc (suc (suc h)))))))) low = absurd (omega arith)
 
 -- a hart below 8 has the number that the map gives for it, cut at 15
-nibble_of-first_eight : (number : ℕ → ℕ) (h : ℕ) → h < 8 → nibble_of (nibbles_to (first_eight number)) h ≡ min (number h) 15
+nibble_of-first_eight : (number : ℕ → ℕ) (h : ℕ) → h < 8 →
+    nibble_of (nibbles_to (first_eight number)) h ≡ min (number h) 15
 nibble_of-first_eight number h low =
     nibble_in-pairs_of (slice_index (first_eight number)) h low
     ∙ ap (λ (n : ℕ). min n 15) (at_its_place number 0 h low)

@@ -1,5 +1,6 @@
 -- Losers and freed harts are their maps.
-use Rattle.std.proofs.Common.{◌≡◌, ℕ, ◌≤◌, ◌+◌, ◌*◌, ◌/◌, ◌%◌, List, length, get_or, refl, sym, ap, subst, zero, suc, ◌∙◌, arith}
+use Rattle.std.proofs.Common.{◌≡◌, ℕ, ◌≤◌, ◌+◌, ◌*◌, ◌/◌, ◌%◌, List, length, get_or, refl, sym, ap, subst, zero, suc}
+use Rattle.std.proofs.Common.{◌∙◌, arith}
 use Rattle.std.proofs.lemmas.List.{ext_get_or}
 use Rattle.std.proofs.Props.{props}
 use Rattle.el_base.specs.Freed.{count_in}
@@ -71,7 +72,8 @@ same_losers a b same =
     (λ (fact : (h : ℕ) → nibble_of a.winners h ≤ 8). record { winners = a.winners; winners_are_harts = fact })
     (small-prop a.winners_are_harts small)
     in
-    let winners = same_nibbles a.winners b.winners (λ h. same_code (nibble_of a.winners h) (nibble_of b.winners h) (same h)) in
+    let winners =
+    same_nibbles a.winners b.winners (λ h. same_code (nibble_of a.winners h) (nibble_of b.winners h) (same h)) in
     subst P winners base b.winners_are_harts
 
 pub same_freed : (a b : Freed) → ((h : ℕ) → count_in a h ≡ count_in b h) → a ≡ b

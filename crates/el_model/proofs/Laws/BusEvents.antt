@@ -21,27 +21,37 @@ use Rattle.el_base.specs.declared.events.Kind.TheVariants as kinds
 use Rattle.el_base.specs.declared.outcomes.Outcome.TheVariants.{Delivered, Ordered, Served}
 use Rattle.el_base.proofs.Laws.Cases.{none_some}
 use Rattle.el_base.proofs.Laws.Tests.{apart_by_test, number_of_test, other_test, own_test}
-use Rattle.el_model.specs.BusEvent.{AtFace, AtProbe, Becomes, Forwards, IsAbsent, IsAnswered, IsBehind, IsBusEvent, IsDeferred, IsForwarded, IsLetGo, IsOfBus}
-use Rattle.el_model.specs.BusEvent.{IsPassed, IsPosted, IsSent, IsToldOn, LosesIt, MayPlace, MayServe, Nothing, Places, Sees, Serves, Start}
-use Rattle.el_model.specs.BusEvent.{Starts, Takes, TellsOn, as_faced, as_met, faced_head, freed_in, having_taken, started}
+use Rattle.el_model.specs.BusEvent.{AtFace, AtProbe, Becomes, Forwards, IsAbsent, IsAnswered, IsBehind, IsBusEvent}
+use Rattle.el_model.specs.BusEvent.{IsDeferred, IsForwarded, IsLetGo, IsOfBus}
+use Rattle.el_model.specs.BusEvent.{IsPassed, IsPosted, IsSent, IsToldOn, LosesIt, MayPlace, MayServe, Nothing, Places}
+use Rattle.el_model.specs.BusEvent.{Sees, Serves, Start}
+use Rattle.el_model.specs.BusEvent.{Starts, Takes, TellsOn, as_faced, as_met, faced_head, freed_in, having_taken}
+use Rattle.el_model.specs.BusEvent.{started}
 use Rattle.el_model.specs.Armed.{freed_by, freed_hart, is_freed, let_go, let_go_hart}
 use Rattle.el_model.specs.Conflicts.{conflicts_with, stamp_in}
-use Rattle.el_model.specs.Deliver.{after_probe, deliver_next, deliver_turn, delivered, forwarded, forwards_on, losers_by, loses_to_origin, nobody}
+use Rattle.el_model.specs.Deliver.{after_probe, deliver_next, deliver_turn, delivered, forwarded, forwards_on}
+use Rattle.el_model.specs.Deliver.{losers_by, loses_to_origin, nobody}
 use Rattle.el_model.specs.Deliver.{one_lost, post_to, probe_losers, taken, told_of, told_on}
-use Rattle.el_model.specs.Face.{Fate, LosesTo, Stays, Unmet, after_fate, deferring, face_losers, faced, faced_hart, fate_at, freed_if, markers_for}
+use Rattle.el_model.specs.Face.{Fate, LosesTo, Stays, Unmet, after_fate, deferring, face_losers, faced, faced_hart}
+use Rattle.el_model.specs.Face.{fate_at, freed_if, markers_for}
 use Rattle.el_model.specs.Face.{met, met_if, met_losers_if, stays, winner_in, winning_stamp}
 use Rattle.el_model.specs.Laws.{BusEventsAreToldOnce}
 use Rattle.el_model.specs.Next.{kind_turn, next, step_turn}
-use Rattle.el_model.specs.Order.{Alone, Behind, InFront, Place, before_face, freed_at, losers_at, marked_by, marked_from, marking, order_raised}
+use Rattle.el_model.specs.Order.{Alone, Behind, InFront, Place, before_face, freed_at, losers_at, marked_by}
+use Rattle.el_model.specs.Order.{marked_from, marking, order_raised}
 use Rattle.el_model.specs.Order.{order_turn, place_for, placed, placed_in_front, placed_last, unraised}
 use Rattle.el_model.specs.RollBack.{beaten}
 use Rattle.el_model.specs.Serve.{Blocks, Free, Obstacle, obstacle_to, serve_ordered, serve_past, serve_turn, served}
-use Rattle.el_model.specs.State.{Hart, ModelState, Turn, count_up, each_hart, hart_of, head_of, idle, new_hart, ordered_of, ordered_on, post_all}
+use Rattle.el_model.specs.State.{Hart, ModelState, Turn, count_up, each_hart, hart_of, head_of, idle, new_hart}
+use Rattle.el_model.specs.State.{ordered_of, ordered_on, post_all}
 use Rattle.el_model.specs.State.{raised_of, with_hart}
 use Rattle.el_model.proofs.Laws.EachHart.{Each, each_after, each_but_below, each_with}
-use Rattle.el_model.proofs.Laws.Harts.{hart_of-each_hart, hart_of-each_hart_past, hart_of-past, hart_of-with_hart_other, hart_of-with_hart_same, with_hart_kept}
-use Rattle.el_model.proofs.Laws.Keeps.{Frame, Keeps, frame_let_go, frame_met, frame_of, frame_placed, frame_twice, keeps_all, keeps_before_face}
-use Rattle.el_model.proofs.Laws.Keeps.{keeps_each_hart, keeps_message, keeps_served, keeps_twice, keeps_with_hart, met_commits, placed_commits}
+use Rattle.el_model.proofs.Laws.Harts.{hart_of-each_hart, hart_of-each_hart_past, hart_of-past, hart_of-with_hart_other}
+use Rattle.el_model.proofs.Laws.Harts.{hart_of-with_hart_same, with_hart_kept}
+use Rattle.el_model.proofs.Laws.Keeps.{Frame, Keeps, frame_let_go, frame_met, frame_of, frame_placed, frame_twice}
+use Rattle.el_model.proofs.Laws.Keeps.{keeps_all, keeps_before_face}
+use Rattle.el_model.proofs.Laws.Keeps.{keeps_each_hart, keeps_message, keeps_served, keeps_twice, keeps_with_hart}
+use Rattle.el_model.proofs.Laws.Keeps.{met_commits, placed_commits}
 use Rattle.el_model.proofs.Laws.Losing.{outside_is_unmet, own_is_unmet}
 use Rattle.el_model.proofs.Laws.Orders.{met_order, placed_order, served_order}
 use Rattle.el_model.proofs.Laws.Tests.{by_test}
@@ -68,9 +78,11 @@ module _ (state : ModelState) (by : ℕ) (start : Start) where
 
   -- one hart alone starts, or each
   one_started : (h : ℕ) (hart : Hart) → hart ≡ started state by start h (hart_of state h) →
-      ((g : ℕ) → g ≢ h → started state by start g (hart_of state g) ≡ hart_of state g) → Each Unbeaten (with_hart state h hart)
+      ((g : ℕ) → g ≢ h → started state by start g (hart_of state g) ≡ hart_of state g) →
+      Each Unbeaten (with_hart state h hart)
   one_started h hart is others =
-      each_but_below Unbeaten state h hart (λ below. subst (Unbeaten h) (sym is) (Starts below)) (λ g apart. left g (others g apart)) (absent h)
+      each_but_below Unbeaten state h hart (λ below. subst (Unbeaten h) (sym is) (Starts below))
+      (λ g apart. left g (others g apart)) (absent h)
 
   each_started : Each Unbeaten (each_hart state (started state by start))
   each_started h = by_count (nat_lt h (length state.harts)) refl
@@ -101,13 +113,16 @@ module _ (state : ModelState) (by : ℕ) (start : Start) where
 
   -- messages that name harts of which a test holds
   listed : (h count from : ℕ) (kind : ℕ → Message) (test : ℕ → Bool) (harts : List Hart) → from + length harts ≤ count →
-      ((k : ℕ) → k < count → test k ≡ true → IsPosted state by start h (kind k)) → ArePosted h (map kind (filter test (count_up from harts)))
+      ((k : ℕ) → k < count → test k ≡ true → IsPosted state by start h (kind k)) →
+      ArePosted h (map kind (filter test (count_up from harts)))
   listed h count from kind test [] within are = tt
   listed h count from kind test (hart ∷ harts) within are =
       by_named (test from) refl (listed h count (suc from) kind test harts (omega (arith, within)) are)
     where
       by_named : (there : Bool) → test from ≡ there → ArePosted h (map kind (filter test (count_up (suc from) harts))) →
-          ArePosted h (map kind (if there then from ∷ filter test (count_up (suc from) harts) else filter test (count_up (suc from) harts)))
+          ArePosted h
+          (map kind (if there then from ∷ filter test (count_up (suc from) harts)
+          else filter test (count_up (suc from) harts)))
       by_named true is rest = (are from (omega (arith, within)) is, rest)
       by_named false is rest = rest
 
@@ -118,8 +133,10 @@ keeps_as_met state by (Places request place) = keeps_before_face state request p
 keeps_as_met state by (Serves request) = keeps_served state request
 keeps_as_met state by (Takes message others) = keeps_with_hart state by (record (hart_of state by) { mail = others })
 
-pub frame_as_faced : (state : ModelState) (by : ℕ) (start : Start) (head : Request) → Frame state (as_faced state by start head)
-frame_as_faced state by start head = frame_twice (frame_of (keeps_as_met state by start)) (frame_let_go (as_met state by start) head)
+pub frame_as_faced : (state : ModelState) (by : ℕ) (start : Start) (head : Request) →
+    Frame state (as_faced state by start head)
+frame_as_faced state by start head =
+    frame_twice (frame_of (keeps_as_met state by start)) (frame_let_go (as_met state by start) head)
 
 -- a hart whose section stays is not the head's
 stays_apart : (state : ModelState) (head : Request) (h : ℕ) → is_some (stays (fate_at state head h)) ≡ true →
@@ -148,20 +165,25 @@ module _ (state : ModelState) (by : ℕ) (start : Start) (head : Request) (is : 
       Unbeaten state by start h (freed_hart (as_met state by start) head h (hart_of (as_met state by start) h))
   freed_becomes h now =
       let hart = hart_of (as_met state by start) h in
-      by_test (Unbeaten state by start h) (is_freed head h hart) (let_go_hart (view_of (as_met state by start).committed h).pc hart) hart
+      by_test (Unbeaten state by start h) (is_freed head h hart)
+      (let_go_hart (view_of (as_met state by start).committed h).pc hart) hart
       (λ freed.
-      subst (λ committed. Unbeaten state by start h (let_go_hart (view_of committed h).pc hart)) (sym (keeps_as_met state by start).committed)
+      subst (λ committed. Unbeaten state by start h (let_go_hart (view_of committed h).pc hart))
+      (sym (keeps_as_met state by start).committed)
       (IsLetGo head hart (record { head_is = is; freed = freed }) now))
       (λ stays. now)
 
   each : Each (Unbeaten state by start) mid
   unfolding let_go
-  each = each_after (Unbeaten state by start) (as_met state by start) (freed_hart (as_met state by start) head) freed_becomes each_met
+  each =
+      each_after (Unbeaten state by start) (as_met state by start) (freed_hart (as_met state by start) head)
+      freed_becomes each_met
 
   deferring_becomes : (mode : Mode) → mid.config.mode ≡ mode → (h : ℕ) → h ≢ head.hart → fate_at mid head h ≡ Stays →
       Becomes state by start h None (deferring mode head.stamp (hart_of mid h))
   deferring_becomes Tlr in_mode h apart fate =
-      Sees head None (hart_of mid h) (record { mode = sym same_mode ∙ in_mode; head_is = is; apart = apart; fate = fate }) (each h)
+      Sees head None (hart_of mid h)
+      (record { mode = sym same_mode ∙ in_mode; head_is = is; apart = apart; fate = fate }) (each h)
   deferring_becomes Sle in_mode h apart fate = each h
   deferring_becomes Plain in_mode h apart fate = each h
 
@@ -177,10 +199,16 @@ module _ (state : ModelState) (by : ℕ) (start : Start) (head : Request) (is : 
   markers_posted : (mode : Mode) → mid.config.mode ≡ mode →
       ArePosted state by start head.hart (markers_for mode mid head)
   markers_posted Tlr in_mode =
-      listed state by start head.hart (length mid.harts) 0 Marker (λ h. is_some (stays (fate_at mid head h))) mid.harts (omega arith)
+      listed state by start head.hart (length mid.harts) 0 Marker (λ h. is_some (stays (fate_at mid head h)))
+      mid.harts (omega arith)
       (λ h below stay.
       IsDeferred start head h
-      (record { mode = sym same_mode ∙ in_mode; head_is = is; apart = stays_apart mid head h stay; fate = stays_there (fate_at mid head h) stay })
+      (record {
+        mode = sym same_mode ∙ in_mode;
+        head_is = is;
+        apart = stays_apart mid head h stay;
+        fate = stays_there (fate_at mid head h) stay;
+      })
       (subst (λ n. h < n) (frame_as_faced state by start head).count below))
   markers_posted Sle in_mode = tt
   markers_posted Plain in_mode = tt
@@ -194,12 +222,17 @@ module _ (state : ModelState) (by : ℕ) (start : Start) (head : Request) (is : 
           (if own then post_all (hart_of mid h) (markers_for mid.config.mode mid head)
           else after_fate mid head (fate_at mid head h) (hart_of mid h))
       by_own true test =
-          let posted = subst (λ k. ArePosted state by start k (markers_for mid.config.mode mid head)) (sym (number_of_test h head.hart test))
+          let posted =
+          subst (λ k. ArePosted state by start k (markers_for mid.config.mode mid head))
+          (sym (number_of_test h head.hart test))
           (markers_posted mid.config.mode refl) in
-          subst (λ fate. Becomes state by start h (winner_in fate) (post_all (hart_of mid h) (markers_for mid.config.mode mid head)))
+          subst (λ fate. Becomes state by start h (winner_in fate)
+          (post_all (hart_of mid h) (markers_for mid.config.mode mid head)))
           (sym (own_is_unmet mid head h (hart_of mid h) test))
           (all_sent state by start h (hart_of mid h) (markers_for mid.config.mode mid head) posted (each h))
-      by_own false test = fate_becomes h (λ same. differ (sym test ∙ ap (λ k. k == head.hart) same ∙ own_test head.hart)) (fate_at mid head h) refl
+      by_own false test =
+          fate_becomes h (λ same. differ (sym test ∙ ap (λ k. k == head.hart) same ∙ own_test head.hart))
+          (fate_at mid head h) refl
         where
           differ : false ≡ true → ⊥
           differ wrong = absurd (cc)
@@ -216,9 +249,12 @@ module _ (state : ModelState) (by : ℕ) (start : Start) (head : Request) (is : 
       by_count false is =
           let past = ltb-false h (length mid.harts) is in
           let none = hart_of-past mid h past in
-          let unmet : fate_at mid head h ≡ Unmet = outside_is_unmet mid head h (hart_of mid h) (ap (λ hart. hart.section) none) in
-          subst (λ fate. Becomes state by start h (winner_in fate) (hart_of (each_hart mid (faced_hart mid head)) h)) (sym unmet)
-          (subst (Becomes state by start h None) (none ∙ sym (hart_of-each_hart_past mid (faced_hart mid head) h past)) (each h))
+          let unmet : fate_at mid head h ≡ Unmet =
+          outside_is_unmet mid head h (hart_of mid h) (ap (λ hart. hart.section) none) in
+          subst (λ fate. Becomes state by start h (winner_in fate) (hart_of (each_hart mid (faced_hart mid head)) h))
+          (sym unmet)
+          (subst (Becomes state by start h None) (none ∙ sym (hart_of-each_hart_past mid (faced_hart mid head) h past))
+          (each h))
 
 -- nothing is done
 nothing_done : (state : ModelState) (by : ℕ) (turn : Turn) → turn.state ≡ state → IsOfBus turn.outcome →
@@ -244,13 +280,17 @@ module _ (state : ModelState) (by : ℕ) (request : Request) where
   unraised_started : (place : Place) → Each (Unbeaten state by (Places request place)) (unraised state request.hart)
   unraised_started place =
       one_started state by (Places request place) request.hart (record (hart_of state request.hart) { raised = None })
-      (ap (λ own. if own then record (hart_of state request.hart) { raised = None } else hart_of state request.hart) (sym (own_test request.hart)))
-      (λ g apart. ap (λ own. if own then record (hart_of state g) { raised = None } else hart_of state g) (other_test g request.hart apart))
+      (ap (λ own. if own then record (hart_of state request.hart) { raised = None } else hart_of state request.hart)
+      (sym (own_test request.hart)))
+      (λ g apart. ap (λ own. if own then record (hart_of state g) { raised = None } else hart_of state g)
+      (other_test g request.hart apart))
 
   marked : (place : Place) (mode : Mode) → state.config.mode ≡ mode → (old : ModelState) (sender h : ℕ) →
       (state.config.mode ≡ Tlr → IsPosted state by (Places request place) h (Marker sender)) →
-      Each (Unbeaten state by (Places request place)) old → Each (Unbeaten state by (Places request place)) (marked_from mode old sender h)
-  marked place Tlr in_mode old sender h is each = sent state by (Places request place) old h (Marker sender) (is in_mode) each
+      Each (Unbeaten state by (Places request place)) old →
+      Each (Unbeaten state by (Places request place)) (marked_from mode old sender h)
+  marked place Tlr in_mode old sender h is each =
+      sent state by (Places request place) old h (Marker sender) (is in_mode) each
   marked place Sle in_mode old sender h is each = each
   marked place Plain in_mode old sender h is each = each
 
@@ -259,18 +299,24 @@ module _ (state : ModelState) (by : ℕ) (request : Request) where
       Each (Unbeaten state by (Places request InFront)) (marking (placed_in_front state request) request.hart former)
   in_front_started None is = unraised_started InFront
   in_front_started (Some former) is =
-      marked InFront state.config.mode refl (placed_in_front state request) request.hart former.hart (λ mode. IsPassed request former mode is)
+      marked InFront state.config.mode refl (placed_in_front state request) request.hart former.hart
+      (λ mode. IsPassed request former mode is)
       (unraised_started InFront)
 
   behind_started : (last : Option Request) → tail_of state.order request.line ≡ last →
       Each (Unbeaten state by (Places request Behind)) (marked_by (placed_last state request) last request.hart)
   behind_started None is = unraised_started Behind
   behind_started (Some last) is =
-      marked Behind state.config.mode refl (placed_last state request) last.hart request.hart (λ mode. IsBehind request last mode is)
+      marked Behind state.config.mode refl (placed_last state request) last.hart request.hart
+      (λ mode. IsBehind request last mode is)
       (unraised_started Behind)
 
   abbrev placing : Place → Turn
-  placing place = record { state = placed state request place; outcome = Ordered (losers_at state request place) (freed_at state request place) }
+  placing place =
+      record {
+        state = placed state request place;
+        outcome = Ordered (losers_at state request place) (freed_at state request place);
+      }
 
   placed_faced : (place : Place) (head : Request) → faced_head state (Places request place) ≡ Some head →
       placed state request place ≡ met (before_face state request place) head
@@ -286,7 +332,8 @@ module _ (state : ModelState) (by : ℕ) (request : Request) where
 
   placed_event : (place : Place) → MayPlace state by request place → (lost : ℕ → Option ℕ) →
       ((h : ℕ) → Becomes state by (Places request place) h (lost h) (hart_of (placed state request place) h)) →
-      ((h : ℕ) → winner_over (placing place).outcome h ≡ winner_over (Delivered (losers_of lost)) h) → IsBusEvent state by (placing place)
+      ((h : ℕ) → winner_over (placing place).outcome h ≡ winner_over (Delivered (losers_of lost)) h) →
+      IsBusEvent state by (placing place)
   placed_event place may lost becomes names =
       let frame = frame_placed state request place in
       record {
@@ -299,7 +346,9 @@ module _ (state : ModelState) (by : ℕ) (request : Request) where
         faces = placed_faced place;
         order = placed_order state request place;
         config = frame.config;
-        committed = placed_commits state request place ∙ ap (λ freed. run state.committed (order_of freed)) (placed_freed place);
+        committed =
+            placed_commits state request place ∙ ap (λ freed. run state.committed (order_of freed))
+            (placed_freed place);
         effect = λ h. ap order_of (placed_freed place);
         count = frame.count;
       }
@@ -311,7 +360,8 @@ module _ (state : ModelState) (by : ℕ) (request : Request) where
       (faced_becomes state by (Places request InFront) request refl
       (in_front_started (head_of state request.line) refl))
       (λ h. refl)
-  place_event Behind may = placed_event Behind may (λ h. None) (behind_started (tail_of state.order request.line) refl) (λ h. refl)
+  place_event Behind may =
+      placed_event Behind may (λ h. None) (behind_started (tail_of state.order request.line) refl) (λ h. refl)
   place_event Alone may =
       placed_event Alone may (λ h. winner_in (fate_at (let_go (placed_last state request) request) request h))
       (faced_becomes state by (Places request Alone) request refl (unraised_started Alone)) (λ h. refl)
@@ -345,7 +395,9 @@ serve_event state by request may None is = record {
   faces = λ head is_head. none_some (sym is ∙ is_head);
   order = served_order state request;
   config = (keeps_served state request).config;
-  committed = (keeps_served state request).committed ∙ sym (ap (run state.committed) (ap order_of (found_freed None is) ∙ no_one_in_order));
+  committed =
+      (keeps_served state request).committed
+      ∙ sym (ap (run state.committed) (ap order_of (found_freed None is) ∙ no_one_in_order));
   effect = λ h. sym (ap order_of (found_freed None is));
   count = (keeps_served state request).count;
 }
@@ -368,32 +420,38 @@ serve_event state by request may (Some head) is =
       order = met_order after (Some head) ∙ served_order state request;
       config = frame.config;
       committed =
-          met_commits after head ∙ ap (λ committed. run committed (order_of (freed_by after head))) (keeps_served state request).committed
+          met_commits after head ∙ ap (λ committed. run committed (order_of (freed_by after head)))
+          (keeps_served state request).committed
           ∙ sym (ap (λ f. run state.committed (order_of f)) freed);
       effect = λ h. sym (ap order_of freed);
       count = frame.count;
     }
 
 -- as a head is met no hart has lost yet, nor as it is faced
-pub met_becomes : (state : ModelState) (by : ℕ) (start : Start) (head : Request) → faced_head state start ≡ Some head → (h : ℕ) →
-    Becomes state by start h None (hart_of (as_met state by start) h)
+pub met_becomes : (state : ModelState) (by : ℕ) (start : Start) (head : Request) → faced_head state start ≡ Some head →
+    (h : ℕ) → Becomes state by start h None (hart_of (as_met state by start) h)
 met_becomes state by Nothing head is h = absurd (cc)
-met_becomes state by (Places request InFront) head is h = in_front_started state by request (head_of state request.line) refl h
-met_becomes state by (Places request Behind) head is h = behind_started state by request (tail_of state.order request.line) refl h
+met_becomes state by (Places request InFront) head is h =
+    in_front_started state by request (head_of state request.line) refl h
+met_becomes state by (Places request Behind) head is h =
+    behind_started state by request (tail_of state.order request.line) refl h
 met_becomes state by (Places request Alone) head is h = unraised_started state by request Alone h
 met_becomes state by (Serves request) head is h = served_started state by request h
 met_becomes state by (Takes message others) head is h = absurd (cc)
 
-pub freed_becomes_at : (state : ModelState) (by : ℕ) (start : Start) (head : Request) → faced_head state start ≡ Some head → (h : ℕ) →
+pub freed_becomes_at : (state : ModelState) (by : ℕ) (start : Start) (head : Request) →
+    faced_head state start ≡ Some head → (h : ℕ) →
     Becomes state by start h None (hart_of (as_faced state by start head) h)
 freed_becomes_at state by start head is h = each state by start head is (met_becomes state by start head is) h
 
-past_event : (state : ModelState) (by : ℕ) (request : Request) → ordered_of state by ≡ Some request → (obstacle : Obstacle) →
-    obstacle_to state request ≡ obstacle → IsBusEvent state by (serve_past state request obstacle)
+past_event : (state : ModelState) (by : ℕ) (request : Request) → ordered_of state by ≡ Some request →
+    (obstacle : Obstacle) → obstacle_to state request ≡ obstacle →
+    IsBusEvent state by (serve_past state request obstacle)
 past_event state by request ordered (Blocks why other) is =
     nothing_done state by (serve_past state request (Blocks why other)) refl tt (λ h. refl) (λ h. refl)
 past_event state by request ordered Free is =
-    serve_event state by request (record { ordered = ordered; free = is }) (head_of (served state request) request.line) refl
+    serve_event state by request (record { ordered = ordered; free = is })
+    (head_of (served state request) request.line) refl
 
 ordered_event : (state : ModelState) (by : ℕ) (ordered : Option Request) → ordered_of state by ≡ ordered →
     IsBusEvent state by (serve_ordered state ordered)
@@ -417,9 +475,11 @@ with_mail state h message others is = by_count (nat_lt h (length state.harts)) r
     by_count : (below : Bool) → nat_lt h (length state.harts) ≡ below → h < length state.harts
     by_count true below = ltb-true h (length state.harts) below
     by_count false below =
-        let none = sym is ∙ ap (λ hart. hart.mail) (hart_of-past state h (ltb-false h (length state.harts) below)) in absurd (cc)
+        let none = sym is ∙ ap (λ hart. hart.mail) (hart_of-past state h (ltb-false h (length state.harts) below)) in
+        absurd (cc)
 
-module _ (state : ModelState) (by : ℕ) (message : Message) (others : List Message) (mail_is : (hart_of state by).mail ≡ message ∷ others) where
+module _ (state : ModelState) (by : ℕ) (message : Message) (others : List Message)
+    (mail_is : (hart_of state by).mail ≡ message ∷ others) where
   abbrev Taking : ℕ → Hart → Type 0
   Taking h hart = Unbeaten state by (Takes message others) h hart
 
@@ -438,11 +498,14 @@ module _ (state : ModelState) (by : ℕ) (message : Message) (others : List Mess
   taken_keeps : Keeps state (taken state by others)
   taken_keeps = keeps_with_hart state by (record (hart_of state by) { mail = others })
 
-  own_start : having_taken message others (hart_of state by) ≡ started state by (Takes message others) by (hart_of state by)
-  own_start = ap (λ own. if own then having_taken message others (hart_of state by) else hart_of state by) (sym (own_test by))
+  own_start : having_taken message others (hart_of state by) ≡ started state by (Takes message others) by
+      (hart_of state by)
+  own_start =
+      ap (λ own. if own then having_taken message others (hart_of state by) else hart_of state by) (sym (own_test by))
 
   others_start : (g : ℕ) → g ≢ by → started state by (Takes message others) g (hart_of state g) ≡ hart_of state g
-  others_start g apart = ap (λ own. if own then having_taken message others (hart_of state g) else hart_of state g) (other_test g by apart)
+  others_start g apart =
+      ap (λ own. if own then having_taken message others (hart_of state g) else hart_of state g) (other_test g by apart)
 
   -- the hart becomes another besides
   taken_started : (P : ℕ → Hart → Type 0) (hart : Hart) → P by hart →
@@ -477,13 +540,14 @@ module _ (state : ModelState) (by : ℕ) (message : Message) (others : List Mess
   }
 
 -- a marker
-module _ (state : ModelState) (by sender : ℕ) (others : List Message) (mail_is : (hart_of state by).mail ≡ Marker sender ∷ others) where
+module _ (state : ModelState) (by sender : ℕ) (others : List Message)
+    (mail_is : (hart_of state by).mail ≡ Marker sender ∷ others) where
   abbrev left_mail : ModelState
   left_mail = taken state by others
 
   tells_on : (own : Request) → ordered_of state by ≡ Some own → (origin : ℕ) → origin < length state.harts →
-      (not (origin == sender) && has (hart_of left_mail by).told origin && is_some (ordered_on left_mail origin own.line)) ≡ true →
-      TellsOn state by sender origin
+      (not (origin == sender) && has (hart_of left_mail by).told origin
+      && is_some (ordered_on left_mail origin own.line)) ≡ true → TellsOn state by sender origin
   tells_on own own_is origin below test =
       both_true (not (origin == sender) && has (hart_of left_mail by).told origin) _ test (λ first waits.
       both_true (not (origin == sender)) _ first (λ apart told.
@@ -492,7 +556,9 @@ module _ (state : ModelState) (by sender : ℕ) (others : List Message) (mail_is
         own_is = own_is;
         exists = below;
         apart = apart_by_test origin sender (not-true (origin == sender) apart);
-        told = sym (ap (λ told. has told origin) (taken_same state by (Marker sender) others mail_is (λ hart. hart.told) refl by)) ∙ told;
+        told =
+            sym (ap (λ told. has told origin)
+            (taken_same state by (Marker sender) others mail_is (λ hart. hart.told) refl by)) ∙ told;
         waits = waits;
       }))
 
@@ -500,12 +566,15 @@ module _ (state : ModelState) (by sender : ℕ) (others : List Message) (mail_is
       ArePosted state by (Takes (Marker sender) others) sender (map Probe (told_on left_mail by sender own))
   told_posted None is = tt
   told_posted (Some own) is =
-      listed state by (Takes (Marker sender) others) sender (length left_mail.harts) 0 Probe _ left_mail.harts (omega arith)
+      listed state by (Takes (Marker sender) others) sender (length left_mail.harts) 0 Probe _
+      left_mail.harts (omega arith)
       (λ origin below test.
       IsToldOn sender others origin
-      (tells_on own is origin (subst (λ n. origin < n) (taken_keeps state by (Marker sender) others mail_is).count below) test))
+      (tells_on own is origin
+      (subst (λ n. origin < n) (taken_keeps state by (Marker sender) others mail_is).count below) test))
 
-  marker_event : IsBusEvent state by (record { state = delivered left_mail by (Marker sender); outcome = Delivered nobody })
+  marker_event : IsBusEvent state by
+      (record { state = delivered left_mail by (Marker sender); outcome = Delivered nobody })
   unfolding delivered
   marker_event =
       let hart = record (hart_of left_mail by) { upstream = included (hart_of left_mail by).upstream sender } in
@@ -513,13 +582,15 @@ module _ (state : ModelState) (by sender : ℕ) (others : List Message) (mail_is
       let messages = Probe by ∷ map Probe (told_on left_mail by sender (ordered_of left_mail by)) in
       let before : Each (Unbeaten state by (Takes (Marker sender) others)) preceded =
       taken_started state by (Marker sender) others mail_is (Unbeaten state by (Takes (Marker sender) others)) hart
-      (subst (λ old. Unbeaten state by (Takes (Marker sender) others) by (record old { upstream = included old.upstream sender }))
+      (subst (λ old. Unbeaten state by (Takes (Marker sender) others) by
+      (record old { upstream = included old.upstream sender }))
       (sym (taken_own state by (Marker sender) others mail_is)) (own_taken state by (Marker sender) others mail_is))
       (λ g apart now. now) in
       taken_event state by (Marker sender) others mail_is (post_to preceded sender messages) (λ h. None)
       (keeps_twice (taken_keeps state by (Marker sender) others mail_is) (keeps_message left_mail by (Marker sender)))
       refl
-      (each_with (Unbeaten state by (Takes (Marker sender) others)) preceded sender (post_all (hart_of preceded sender) messages)
+      (each_with (Unbeaten state by (Takes (Marker sender) others)) preceded sender
+      (post_all (hart_of preceded sender) messages)
       (all_sent state by (Takes (Marker sender) others) sender (hart_of preceded sender) messages
       (IsAnswered sender others, told_posted (ordered_of state by) refl) (before sender)) before)
 
@@ -529,7 +600,8 @@ conflicts_same : (head : Option Request) (h : ℕ) (hart : Hart) (mail : List Me
 conflicts_same None h hart mail = refl
 conflicts_same (Some head) h hart mail = refl
 
-module _ (state : ModelState) (by origin : ℕ) (others : List Message) (mail_is : (hart_of state by).mail ≡ Probe origin ∷ others) where
+module _ (state : ModelState) (by origin : ℕ) (others : List Message)
+    (mail_is : (hart_of state by).mail ≡ Probe origin ∷ others) where
   abbrev probe_left : ModelState
   probe_left = taken state by others
 
@@ -537,14 +609,20 @@ module _ (state : ModelState) (by origin : ℕ) (others : List Message) (mail_is
   probe_start = Takes (Probe origin) others
 
   told_before : has (hart_of probe_left by).told origin ≡ has (hart_of state by).told origin
-  told_before = ap (λ told. has told origin) (taken_same state by (Probe origin) others mail_is (λ hart. hart.told) refl by)
+  told_before =
+      ap (λ told. has told origin) (taken_same state by (Probe origin) others mail_is (λ hart. hart.told) refl by)
 
   known_event : has (hart_of probe_left by).told origin ≡ true →
       IsBusEvent state by (record { state = probe_left; outcome = Delivered nobody })
   known_event known =
-      taken_event state by (Probe origin) others mail_is probe_left (λ h. None) (taken_keeps state by (Probe origin) others mail_is) refl
+      taken_event state by (Probe origin) others mail_is probe_left (λ h. None)
+      (taken_keeps state by (Probe origin) others mail_is) refl
       (one_started state by probe_start by (record (hart_of state by) { mail = others })
-      (ap (λ found. record (hart_of state by) { mail = others; told = if found then (hart_of state by).told else origin ∷ (hart_of state by).told })
+      (ap
+      (λ found. record (hart_of state by) {
+        mail = others;
+        told = if found then (hart_of state by).told else origin ∷ (hart_of state by).told;
+      })
       (sym (sym told_before ∙ known))
       ∙ own_start state by (Probe origin) others mail_is)
       (others_start state by (Probe origin) others mail_is))
@@ -552,8 +630,10 @@ module _ (state : ModelState) (by origin : ℕ) (others : List Message) (mail_is
   loses_before : (request : Request) →
       loses_to_origin probe_left by (Some request) ≡ loses_to_origin state by (Some request)
   loses_before request =
-      taken_same state by (Probe origin) others mail_is (λ hart. conflicts_with (head_of state request.line) by hart && is_before request.stamp hart.attempt)
-      (ap (λ meets. meets && is_before request.stamp (hart_of state by).attempt) (conflicts_same (head_of state request.line) by (hart_of state by) others))
+      taken_same state by (Probe origin) others mail_is
+      (λ hart. conflicts_with (head_of state request.line) by hart && is_before request.stamp hart.attempt)
+      (ap (λ meets. meets && is_before request.stamp (hart_of state by).attempt)
+      (conflicts_same (head_of state request.line) by (hart_of state by) others))
       by
 
   -- the origins that the hart was told of now, and whether its section loses
@@ -570,13 +650,16 @@ module _ (state : ModelState) (by origin : ℕ) (others : List Message) (mail_is
 
   told_becomes : (request : Option Request) → ordered_of state origin ≡ request → (loses : Bool) →
       loses_to_origin probe_left by request ≡ loses →
-      Becomes state by probe_start by (lost_if loses by) (if loses then beaten state.config.mode (stamp_in request) told_hart else told_hart)
+      Becomes state by probe_start by (lost_if loses by)
+      (if loses then beaten state.config.mode (stamp_in request) told_hart else told_hart)
   told_becomes request is false loses = told_so
   told_becomes None is true loses = absurd (cc)
   told_becomes (Some request) is true loses =
-      subst (λ own. Becomes state by probe_start by (if own then Some origin else None) (beaten state.config.mode request.stamp told_hart))
+      subst (λ own. Becomes state by probe_start by (if own then Some origin else None)
+      (beaten state.config.mode request.stamp told_hart))
       (sym (own_test by))
-      (LosesIt origin request.stamp told_hart (AtProbe origin others request is (sym (loses_before request) ∙ loses)) told_so)
+      (LosesIt origin request.stamp told_hart (AtProbe origin others request is (sym (loses_before request) ∙ loses))
+      told_so)
 
   not_lost : (loses : Bool) (h : ℕ) → h ≢ by → lost_if loses h ≡ None
   not_lost true h apart = ap (λ own. if own then Some origin else None) (other_test h by apart)
@@ -595,30 +678,38 @@ module _ (state : ModelState) (by origin : ℕ) (others : List Message) (mail_is
         request = request;
         waits = is;
         apart = apart_by_test h origin (not-true (h == origin) apart);
-        before = sym (ap (λ upstream. has upstream h) (taken_same state by (Probe origin) others mail_is (λ hart. hart.upstream) refl by)) ∙ before;
+        before =
+            sym (ap (λ upstream. has upstream h)
+            (taken_same state by (Probe origin) others mail_is (λ hart. hart.upstream) refl by)) ∙ before;
         own = own;
       }))
 
   probe_event : has (hart_of state by).told origin ≡ false → (request : Option Request) →
       ordered_of state origin ≡ request → (loses : Bool) →
       loses_to_origin probe_left by request ≡ loses →
-      IsBusEvent state by (record { state = after_probe probe_left by origin request; outcome = Delivered (losers_of (lost_if loses)) })
+      IsBusEvent state by
+      (record { state = after_probe probe_left by origin request; outcome = Delivered (losers_of (lost_if loses)) })
   probe_event new request is loses loses_is =
       let told = with_hart probe_left by (told_of probe_left by origin request) in
       let Lost : ℕ → Hart → Type 0 = λ h hart. Becomes state by probe_start h (lost_if loses h) hart in
       let each : Each Lost told =
       taken_started state by (Probe origin) others mail_is Lost (told_of probe_left by origin request)
-      (subst (λ lost. Lost by (if lost then beaten state.config.mode (stamp_in request) told_hart else told_hart)) (sym loses_is)
+      (subst (λ lost. Lost by (if lost then beaten state.config.mode (stamp_in request) told_hart else told_hart))
+      (sym loses_is)
       (told_becomes request is loses loses_is))
-      (λ g apart now. subst (λ lost. Becomes state by probe_start g lost (hart_of state g)) (sym (not_lost loses g apart)) now) in
+      (λ g apart now. subst (λ lost. Becomes state by probe_start g lost (hart_of state g))
+      (sym (not_lost loses g apart)) now) in
       taken_event state by (Probe origin) others mail_is (after_probe probe_left by origin request) (lost_if loses)
-      (keeps_twice (taken_keeps state by (Probe origin) others mail_is) (keeps_twice (keeps_with_hart probe_left by _) (keeps_each_hart told _)))
+      (keeps_twice (taken_keeps state by (Probe origin) others mail_is)
+      (keeps_twice (keeps_with_hart probe_left by _) (keeps_each_hart told _)))
       refl
       (each_after Lost told (forwarded probe_left by origin request)
       (λ h now.
-      by_test (Lost h) (forwards_on probe_left by origin request h) (record (hart_of told h) { mail = posted (hart_of told h).mail (Probe origin) })
+      by_test (Lost h) (forwards_on probe_left by origin request h)
+      (record (hart_of told h) { mail = posted (hart_of told h).mail (Probe origin) })
       (hart_of told h)
-      (λ sends. IsSent (Probe origin) (lost_if loses h) (hart_of told h) (IsForwarded origin others h (forwards_at new request is h sends)) now)
+      (λ sends. IsSent (Probe origin) (lost_if loses h) (hart_of told h)
+      (IsForwarded origin others h (forwards_at new request is h sends)) now)
       (λ keeps. now))
       each)
 
@@ -631,15 +722,23 @@ losers_if false by origin = refl
 
 message_event : (state : ModelState) (by : ℕ) (message : Message) (others : List Message) →
     (hart_of state by).mail ≡ message ∷ others →
-    IsBusEvent state by (record { state = delivered (taken state by others) by message; outcome = Delivered (losers_by (taken state by others) by message) })
+    IsBusEvent state by
+    (record {
+      state = delivered (taken state by others) by message;
+      outcome = Delivered (losers_by (taken state by others) by message);
+    })
 unfolding delivered
 message_event state by (Marker sender) others is = marker_event state by sender others is
 message_event state by (Probe origin) others is = by_told (has (hart_of (taken state by others) by).told origin) refl
   where
     by_told : (known : Bool) → has (hart_of (taken state by others) by).told origin ≡ known →
         IsBusEvent state by (record {
-          state = if known then taken state by others else after_probe (taken state by others) by origin (ordered_of (taken state by others) origin);
-          outcome = Delivered (if known then nobody else probe_losers (taken state by others) by origin (ordered_of (taken state by others) origin));
+          state =
+              if known then taken state by others else after_probe (taken state by others) by origin
+              (ordered_of (taken state by others) origin);
+          outcome =
+              Delivered (if known then nobody else probe_losers (taken state by others) by origin
+              (ordered_of (taken state by others) origin));
         })
     by_told true known = known_event state by origin others is known
     by_told false known =
@@ -649,7 +748,8 @@ message_event state by (Probe origin) others is = by_told (has (hart_of (taken s
           outcome = Delivered losers;
         }))
         (losers_if (loses_to_origin (taken state by others) by (ordered_of (taken state by others) origin)) by origin)
-        (probe_event state by origin others is (sym (told_before state by origin others is) ∙ known) (ordered_of state origin) refl
+        (probe_event state by origin others is (sym (told_before state by origin others is) ∙ known)
+        (ordered_of state origin) refl
         (loses_to_origin (taken state by others) by (ordered_of (taken state by others) origin)) refl)
 
 mail_event : (state : ModelState) (by : ℕ) (mail : List Message) → (hart_of state by).mail ≡ mail →
@@ -678,9 +778,12 @@ pub by_kind : (P : Turn → Type 0) (state : ModelState) (h : ℕ) (kind : Kind)
     (kind ≡ kinds.Step → P (step_turn state h)) →
     ((turn : Turn) → IsBusEvent state h turn → P turn) → P (kind_turn state h kind)
 by_kind P state h kinds.Step step bus = step refl
-by_kind P state h kinds.Order step bus = bus (kind_turn state h kinds.Order) (bus_event state h kinds.Order (λ same. absurd (cc)))
-by_kind P state h kinds.Serve step bus = bus (kind_turn state h kinds.Serve) (bus_event state h kinds.Serve (λ same. absurd (cc)))
-by_kind P state h kinds.Deliver step bus = bus (kind_turn state h kinds.Deliver) (bus_event state h kinds.Deliver (λ same. absurd (cc)))
+by_kind P state h kinds.Order step bus =
+    bus (kind_turn state h kinds.Order) (bus_event state h kinds.Order (λ same. absurd (cc)))
+by_kind P state h kinds.Serve step bus =
+    bus (kind_turn state h kinds.Serve) (bus_event state h kinds.Serve (λ same. absurd (cc)))
+by_kind P state h kinds.Deliver step bus =
+    bus (kind_turn state h kinds.Deliver) (bus_event state h kinds.Deliver (λ same. absurd (cc)))
 
 pub by_event : (P : Turn → Type 0) (state : ModelState) (event : Event) →
     (event.kind ≡ kinds.Step → P (step_turn state event.hart.number)) →

@@ -1,5 +1,6 @@
 -- each outcome comes exactly where its rule says
-use Rattle.std.proofs.Common.{◌≡◌, ◌∙◌, ℕ, Bool, true, false, List, [], ◌∷◌, Option, Some, None, refl, ap, sym, subst, inl, inr, if◌then◌else◌}
+use Rattle.std.proofs.Common.{◌≡◌, ◌∙◌, ℕ, Bool, true, false, List, [], ◌∷◌, Option, Some, None, refl, ap, sym, subst}
+use Rattle.std.proofs.Common.{inl, inr, if◌then◌else◌}
 use Rattle.std.specs.Prelude.{◌↔◌, ◌⊎◌}
 use Rattle.bus_order.specs.Order.{Request}
 use Rattle.el_base.specs.LineAddr.{line_addr}
@@ -8,7 +9,8 @@ use Rattle.el_base.specs.declared.events.Kind.{Kind}
 use Rattle.el_base.specs.declared.events.Kind.TheVariants as kinds
 use Rattle.el_base.specs.declared.outcomes.Need.{Need}
 use Rattle.el_base.specs.declared.outcomes.Outcome.{Outcome}
-use Rattle.el_base.specs.declared.outcomes.Outcome.TheVariants.{Idle, Stalled, Missed, Ran, Began, Buffered, Committed, RolledBack, Ordered, Served}
+use Rattle.el_base.specs.declared.outcomes.Outcome.TheVariants.{Idle, Stalled, Missed, Ran, Began, Buffered, Committed}
+use Rattle.el_base.specs.declared.outcomes.Outcome.TheVariants.{RolledBack, Ordered, Served}
 use Rattle.el_base.specs.declared.outcomes.Outcome.TheVariants.{Blocked, Delivered, Armed, LetGo}
 use Rattle.el_model.specs.Armed.{ArmedRule, Continues, Elides, LetsGo, armed_rule, armed_turn, by_armed_rule}
 use Rattle.el_model.specs.Causes.{ComesWhere, Goes, GoesArmed, GoesInside, GoesOutside, NothingToDo, Waits}
@@ -19,9 +21,11 @@ use Rattle.el_model.specs.Next.{going_turn, kind_turn, next, outside_turn, stall
 use Rattle.el_model.specs.Order.{order_freed, order_raised, order_turn}
 use Rattle.el_model.specs.Plain as outside
 use Rattle.el_model.specs.Plain.{PlainRule, by_plain_rule, plain_rule, plain_turn}
-use Rattle.el_model.specs.Serve.{Blocks, Free, Obstacle, obstacle_to, serve_freed, serve_ordered, serve_past, serve_turn}
+use Rattle.el_model.specs.Serve.{Blocks, Free, Obstacle, obstacle_to, serve_freed, serve_ordered, serve_past}
+use Rattle.el_model.specs.Serve.{serve_turn}
 use Rattle.el_model.specs.State as states
-use Rattle.el_model.specs.State.{ModelState, Section, Turn, armed_of, has_request, hart_of, ordered_of, raised_of, section_of}
+use Rattle.el_model.specs.State.{ModelState, Section, Turn, armed_of, has_request, hart_of, ordered_of, raised_of}
+use Rattle.el_model.specs.State.{section_of}
 use Rattle.el_model.specs.Upcoming.{Swap, Touch}
 use Rattle.mail.specs.Mailbox.{Message}
 use Rattle.rv_alu.specs.declared.view.HartStatus.{HartStatus}
@@ -46,7 +50,8 @@ plain_told state event goes out unarmed (outside.Arms word) is =
 
 armed_told : (state : ModelState) (event : Event) (armed : states.Armed) → Goes state event →
     section_of state event.hart.number ≡ None → armed_of state event.hart.number ≡ Some armed → (rule : ArmedRule) →
-    armed_rule state event.hart.number armed ≡ rule → Told state event (by_armed_rule state event.hart.number armed rule)
+    armed_rule state event.hart.number armed ≡ rule →
+    Told state event (by_armed_rule state event.hart.number armed rule)
 unfolding by_armed_rule
 armed_told state event armed goes out armed_is (Elides swap) is =
     (swap, record { by_rule = inr (armed, record { goes = goes; outside = out; is_armed = armed_is; rule_is = is }) })
@@ -86,12 +91,13 @@ going_told state event goes (Some section) is =
     section_told state event section goes is (section_rule state event.hart.number section) refl
 
 running_told : (state : ModelState) (event : Event) → event.kind ≡ kinds.Step →
-    status_of state.committed event.hart.number ≡ Running → (waits : Bool) → has_request state event.hart.number ≡ waits →
-    Told state event
+    status_of state.committed event.hart.number ≡ Running → (waits : Bool) →
+    has_request state event.hart.number ≡ waits → Told state event
     (if waits then stalled state else going_turn state event.hart.number (section_of state event.hart.number))
 running_told state event step running true is = record { step = step; running = running; waits = is }
 running_told state event step running false is =
-    going_told state event (record { step = step; running = running; free = is }) (section_of state event.hart.number) refl
+    going_told state event (record { step = step; running = running; free = is })
+    (section_of state event.hart.number) refl
 
 status_told : (state : ModelState) (event : Event) → event.kind ≡ kinds.Step → (status : HartStatus) →
     status_of state.committed event.hart.number ≡ status → Told state event (status_turn state event.hart.number status)
@@ -103,7 +109,8 @@ status_told state event step (Trapped cause pc) is = inl (record { step = step; 
 order_told : (state : ModelState) (event : Event) → event.kind ≡ kinds.Order → (raised : Option Request) →
     raised_of state event.hart.number ≡ raised → Told state event (order_raised state raised)
 order_told state event order None is = inr (inl (record { order = order; nothing = is }))
-order_told state event order (Some request) is = record { request = request; order = order; raised = is; losers_are = refl; freed_are = refl }
+order_told state event order (Some request) is =
+    record { request = request; order = order; raised = is; losers_are = refl; freed_are = refl }
 
 past_told : (state : ModelState) (event : Event) → event.kind ≡ kinds.Serve → (request : Request) →
     ordered_of state event.hart.number ≡ Some request → (obstacle : Obstacle) → obstacle_to state request ≡ obstacle →
@@ -142,7 +149,8 @@ goes_turn : (state : ModelState) (event : Event) → Goes state event →
 unfolding next step_turn
 goes_turn state event goes = rw (goes.step, goes.running, goes.free) refl
 
-stopped_idle : (state : ModelState) (h : ℕ) (status : HartStatus) → (status ≡ Running → ⊥) → (status_turn state h status).outcome ≡ Idle
+stopped_idle : (state : ModelState) (h : ℕ) (status : HartStatus) → (status ≡ Running → ⊥) →
+    (status_turn state h status).outcome ≡ Idle
 stopped_idle state h Running stopped = absurd (stopped refl)
 stopped_idle state h (Exited code) stopped = refl
 stopped_idle state h (Trapped cause pc) stopped = refl
@@ -154,8 +162,8 @@ plain_comes state event rule w =
     goes_turn state event w.goes ∙ ap (going_turn state event.hart.number) w.outside
     ∙ ap (outside_turn state event.hart.number) w.unarmed ∙ ap (by_plain_rule state event.hart.number) w.rule_is
 
-armed_comes : (state : ModelState) (event : Event) (armed : states.Armed) (rule : ArmedRule) → GoesArmed state event armed rule →
-    next state event ≡ by_armed_rule state event.hart.number armed rule
+armed_comes : (state : ModelState) (event : Event) (armed : states.Armed) (rule : ArmedRule) →
+    GoesArmed state event armed rule → next state event ≡ by_armed_rule state event.hart.number armed rule
 unfolding armed_turn
 armed_comes state event armed rule w =
     goes_turn state event w.goes ∙ ap (going_turn state event.hart.number) w.outside
@@ -188,14 +196,16 @@ unfolding next step_turn
 idle_comes state event (inl w) = rw w.step (stopped_idle state event.hart.number _ w.stopped)
 idle_comes state event (inr (inl w)) = ap (λ turn. turn.outcome) (order_comes state event None w.order w.nothing)
 idle_comes state event (inr (inr (inl w))) = ap (λ turn. turn.outcome) (serve_comes state event None w.serve w.nothing)
-idle_comes state event (inr (inr (inr w))) = ap (λ turn. turn.outcome) (deliver_comes state event [] w.deliver w.nothing)
+idle_comes state event (inr (inr (inr w))) =
+    ap (λ turn. turn.outcome) (deliver_comes state event [] w.deliver w.nothing)
 
 stall_comes : (state : ModelState) (event : Event) → Waits state event → (next state event).outcome ≡ Stalled
 unfolding next step_turn
 stall_comes state event w = rw (w.step, w.running, w.waits) refl
 
 missed_comes : (state : ModelState) (event : Event) (line : ℕ) (need : Need) →
-    (GoesOutside state event (outside.Misses line need) ⊎ ((section : Section) × GoesInside state event section (inside.Misses line need))) →
+    (GoesOutside state event (outside.Misses line need)
+    ⊎ ((section : Section) × GoesInside state event section (inside.Misses line need))) →
     (next state event).outcome ≡ Missed (line_addr line) need
 unfolding by_plain_rule by_section_rule
 missed_comes state event line need (inl w) =
@@ -204,11 +214,12 @@ missed_comes state event line need (inr (section, w)) =
     ap (λ turn. turn.outcome) (section_comes state event section (inside.Misses line need) w)
 
 began_comes : (state : ModelState) (event : Event) (swap : Swap) →
-    (GoesOutside state event (outside.Begins swap) ⊎ ((armed : states.Armed) × GoesArmed state event armed (Elides swap))) →
-    (next state event).outcome ≡ Began
+    (GoesOutside state event (outside.Begins swap)
+    ⊎ ((armed : states.Armed) × GoesArmed state event armed (Elides swap))) → (next state event).outcome ≡ Began
 unfolding by_plain_rule by_armed_rule
 began_comes state event swap (inl w) = ap (λ turn. turn.outcome) (plain_comes state event (outside.Begins swap) w)
-began_comes state event swap (inr (armed, w)) = ap (λ turn. turn.outcome) (armed_comes state event armed (Elides swap) w)
+began_comes state event swap (inr (armed, w)) =
+    ap (λ turn. turn.outcome) (armed_comes state event armed (Elides swap) w)
 
 buffered_comes : (state : ModelState) (event : Event) →
     (((section : Section) × (touch : Option Touch) × GoesInside state event section (inside.Buffers touch))
@@ -260,7 +271,8 @@ by_their_rules state event outcome =
     (λ is. subst (ComesWhere state event) is (next_told state event), comes state event outcome)
 
 -- where there was nothing to do, nothing has changed
-stopped_still : (state : ModelState) (h : ℕ) (status : HartStatus) → (status ≡ Running → ⊥) → (status_turn state h status).state ≡ state
+stopped_still : (state : ModelState) (h : ℕ) (status : HartStatus) → (status ≡ Running → ⊥) →
+    (status_turn state h status).state ≡ state
 stopped_still state h Running stopped = absurd (stopped refl)
 stopped_still state h (Exited code) stopped = refl
 stopped_still state h (Trapped cause pc) stopped = refl
@@ -272,5 +284,6 @@ still_where state event (inr (inl w)) = ap (λ turn. turn.state) (order_comes st
 still_where state event (inr (inr (inl w))) = ap (λ turn. turn.state) (serve_comes state event None w.serve w.nothing)
 still_where state event (inr (inr (inr w))) = ap (λ turn. turn.state) (deliver_comes state event [] w.deliver w.nothing)
 
-pub idle_is_still : (state : ModelState) (event : Event) → (next state event).outcome ≡ Idle → (next state event).state ≡ state
+pub idle_is_still : (state : ModelState) (event : Event) → (next state event).outcome ≡ Idle →
+    (next state event).state ≡ state
 idle_is_still state event idle = still_where state event ((by_their_rules state event Idle).0 idle)

@@ -1,5 +1,6 @@
 -- a step is one deed of its hart, in the frame
-use Rattle.std.proofs.Common.{◌≡◌, ◌≢◌, ◌∙◌, ℕ, zero, suc, Bool, true, false, not, List, [], ◌∷◌, Option, None, Some, is_some, refl, ap, sym, inl}
+use Rattle.std.proofs.Common.{◌≡◌, ◌≢◌, ◌∙◌, ℕ, zero, suc, Bool, true, false, not, List, [], ◌∷◌, Option, None, Some}
+use Rattle.std.proofs.Common.{is_some, refl, ap, sym, inl}
 use Rattle.std.proofs.Common.{inr, if◌then◌else◌, ◌==◌, ◌&&◌}
 use Rattle.std.specs.Prelude.{◌⊎◌, slice_index_or, slice_set}
 use Rattle.std.proofs.lemmas.Option.{same_Some}
@@ -11,18 +12,24 @@ use Rattle.el_base.specs.declared.outcomes.Cause.TheVariants.{Room, Lines, Long,
 use Rattle.el_base.specs.declared.outcomes.Need.TheVariants as needs
 use Rattle.el_base.proofs.Laws.Cases.{none_some}
 use Rattle.el_model.specs.Armed as rules
-use Rattle.el_model.specs.Armed.{ArmedRule, armed_turn, by_armed_rule, completes, exchange_rule, is_quiet, may_grow, quiet_rule, shown_armed}
+use Rattle.el_model.specs.Armed.{ArmedRule, armed_turn, by_armed_rule, completes, exchange_rule, is_quiet, may_grow}
+use Rattle.el_model.specs.Armed.{quiet_rule, shown_armed}
 use Rattle.el_model.specs.Conflicts.{is_wanted_to_write}
 use Rattle.el_model.specs.Deed as deeds
-use Rattle.el_model.specs.Deed.{GoesFurther, GoesOn, HasRoom, IsArmed, IsDeed, IsElidable, IsInside, IsOutside, IsReserving, IsShort, MustRollBack}
+use Rattle.el_model.specs.Deed.{GoesFurther, GoesOn, HasRoom, IsArmed, IsDeed, IsElidable, IsInside, IsOutside}
+use Rattle.el_model.specs.Deed.{IsReserving, IsShort, MustRollBack}
 use Rattle.el_model.specs.Deed.{WantsBit, is_open, is_refused, permits}
 use Rattle.el_model.specs.InSection as inside
-use Rattle.el_model.specs.InSection.{SectionRule, bit_rule, by_section_rule, is_covered, is_full, section_turn, shown_in}
+use Rattle.el_model.specs.InSection.{SectionRule, bit_rule, by_section_rule, is_covered, is_full, section_turn}
+use Rattle.el_model.specs.InSection.{shown_in}
 use Rattle.el_model.specs.Next.{going_turn, outside_turn, stalled, status_turn, step_turn}
 use Rattle.el_model.specs.Plain as outside
-use Rattle.el_model.specs.Plain.{PlainRule, by_plain_rule, elidable_reserve, elidable_swap, may_elide, plain_turn, reserve_rule, swap_rule}
-use Rattle.el_model.specs.State.{Armed, Hart, ModelState, Section, armed_of, cache_of, has_request, hart_of, idle, new_hart, section_of}
-use Rattle.el_model.specs.Upcoming.{Swap, Touch, calls_or_stops, changes_word, is_load_reserved, is_release, is_store_conditional, is_swap}
+use Rattle.el_model.specs.Plain.{PlainRule, by_plain_rule, elidable_reserve, elidable_swap, may_elide, plain_turn}
+use Rattle.el_model.specs.Plain.{reserve_rule, swap_rule}
+use Rattle.el_model.specs.State.{Armed, Hart, ModelState, Section, armed_of, cache_of, has_request, hart_of, idle}
+use Rattle.el_model.specs.State.{new_hart, section_of}
+use Rattle.el_model.specs.Upcoming.{Swap, Touch, calls_or_stops, changes_word, is_load_reserved, is_release}
+use Rattle.el_model.specs.Upcoming.{is_store_conditional, is_swap}
 use Rattle.el_model.specs.Upcoming.{next_conditional, next_reserved, next_swap, next_touch, stores_to_word}
 use Rattle.el_model.proofs.Laws.Tests.{by_test}
 use Rattle.moesi.specs.Letters.{may_read}
@@ -46,7 +53,8 @@ rests state h stopped = record {
   turn_is = sym (ap (λ harts. idle (record state { harts = harts })) (own_set state.harts h (new_hart 0)));
 }
 
-waits : (state : ModelState) (h : ℕ) → status_of state.committed h ≡ Running → has_request state h ≡ true → IsDeed state h (stalled state)
+waits : (state : ModelState) (h : ℕ) → status_of state.committed h ≡ Running → has_request state h ≡ true →
+    IsDeed state h (stalled state)
 waits state h running asked = record {
   deed = deeds.Waits;
   where_it = record { running = running; waits = asked };
@@ -67,7 +75,14 @@ touch_deed : (state : ModelState) (h : ℕ) → IsOutside state h → Ordinary s
 unfolding by_plain_rule
 touch_deed state h out ordinary None is = record {
   deed = deeds.Runs None;
-  where_it = record { outside = out; unelided = ordinary.unelided; unarming = ordinary.unarming; touches = is; permitted = tt };
+  where_it =
+      record {
+        outside = out;
+        unelided = ordinary.unelided;
+        unarming = ordinary.unarming;
+        touches = is;
+        permitted = tt;
+      };
   turn_is = refl;
 }
 touch_deed state h out ordinary (Some touch) is =
@@ -75,7 +90,13 @@ touch_deed state h out ordinary (Some touch) is =
     (λ may. record {
       deed = deeds.Runs (Some touch);
       where_it =
-          record { outside = out; unelided = ordinary.unelided; unarming = ordinary.unarming; touches = is; permitted = may };
+          record {
+            outside = out;
+            unelided = ordinary.unelided;
+            unarming = ordinary.unarming;
+            touches = is;
+            permitted = may;
+          };
       turn_is = refl;
     })
     (λ refused. record {
@@ -100,7 +121,8 @@ acquire_misses state h swap out elidable why = record {
   turn_is = refl;
 }
 
-begins : (state : ModelState) (h : ℕ) (swap : Swap) → deeds.MayBegin state h swap → Outside state h (outside.Begins swap)
+begins : (state : ModelState) (h : ℕ) (swap : Swap) → deeds.MayBegin state h swap →
+    Outside state h (outside.Begins swap)
 unfolding by_plain_rule
 begins state h swap may = record { deed = deeds.Begins swap; where_it = may; turn_is = refl }
 
@@ -111,7 +133,8 @@ elidable_is : (state : ModelState) (h : ℕ) (swap : Swap) (trusted : Bool) →
 elidable_is state h swap true trusted is = record { trusted = trusted; next = is }
 elidable_is state h swap false trusted is = absurd (cc)
 
-elidable_found : (state : ModelState) (h : ℕ) (swap : Swap) → IsElidable state h swap → elidable_swap state h ≡ Some swap
+elidable_found : (state : ModelState) (h : ℕ) (swap : Swap) → IsElidable state h swap →
+    elidable_swap state h ≡ Some swap
 elidable_found state h swap elidable = rw (elidable.trusted, elidable.next) refl
 
 -- the same of the LR at which a hart may arm
@@ -133,7 +156,8 @@ chosen : {A : Type 0} (test : Bool) (found : Option A) (x : A) → (if test then
 chosen true found x is = refl
 chosen false found x is = absurd (cc)
 
-swap_reserves_not : (state : ModelState) (h word : ℕ) (swap : Swap) → IsElidable state h swap → IsReserving state h word → ⊥
+swap_reserves_not : (state : ModelState) (h word : ℕ) (swap : Swap) → IsElidable state h swap →
+    IsReserving state h word → ⊥
 swap_reserves_not state h word swap elidable reserving =
     let insn = next_insn state.committed h in
     let swaps = chosen (is_swap insn) _ swap elidable.next in
@@ -148,8 +172,8 @@ unfolding by_plain_rule
 arms state h word may = record { deed = deeds.Arms word; where_it = may; turn_is = refl }
 
 reserve_deed : (state : ModelState) (h : ℕ) → IsOutside state h →
-    ((swap : Swap) → IsElidable state h swap → changes_word swap ≡ false) → (found : Option ℕ) → elidable_reserve state h ≡ found →
-    Outside state h (reserve_rule state h found)
+    ((swap : Swap) → IsElidable state h swap → changes_word swap ≡ false) → (found : Option ℕ) →
+    elidable_reserve state h ≡ found → Outside state h (reserve_rule state h found)
 reserve_deed state h out unelided None is =
     touch_deed state h out
     (record {
@@ -159,7 +183,8 @@ reserve_deed state h out unelided None is =
     (next_touch state.committed h) refl
 reserve_deed state h out unelided (Some word) is =
     by_test (Outside state h) (is_open state h word) (outside.Arms word) _
-    (λ may. arms state h word (record { outside = out; reserving = reserving_is state h word _ refl is; may_open = may }))
+    (λ may. arms state h word
+    (record { outside = out; reserving = reserving_is state h word _ refl is; may_open = may }))
     (λ closed.
     touch_deed state h out
     (record {
@@ -185,7 +210,9 @@ swap_deed state h out (Some swap) is =
     (λ same.
     touch_deed state h out
     (record {
-      unelided = λ other is_other. ap changes_word (same_Some _ _ (sym (elidable_found state h other is_other) ∙ is)) ∙ not-true _ same;
+      unelided =
+          λ other is_other. ap changes_word (same_Some _ _ (sym (elidable_found state h other is_other) ∙ is))
+          ∙ not-true _ same;
       unarming = λ word reserving. absurd (swap_reserves_not state h word swap elidable reserving);
     })
     (next_touch state.committed h) refl)
@@ -210,11 +237,13 @@ plain_deed state h out = swap_deed state h out (elidable_swap state h) refl
 abbrev WhileArmed : ModelState → ℕ → Armed → ArmedRule → Type 0
 WhileArmed state h armed rule = IsDeed state h (by_armed_rule state h armed rule)
 
-lets_go : (state : ModelState) (h : ℕ) (armed : Armed) → deeds.MustLetGo state h armed → WhileArmed state h armed rules.LetsGo
+lets_go : (state : ModelState) (h : ℕ) (armed : Armed) → deeds.MustLetGo state h armed →
+    WhileArmed state h armed rules.LetsGo
 unfolding by_armed_rule
 lets_go state h armed must = record { deed = deeds.LetsGo armed; where_it = must; turn_is = refl }
 
-continues : (state : ModelState) (h : ℕ) (armed : Armed) → deeds.MayContinue state h armed → WhileArmed state h armed rules.Continues
+continues : (state : ModelState) (h : ℕ) (armed : Armed) → deeds.MayContinue state h armed →
+    WhileArmed state h armed rules.Continues
 unfolding by_armed_rule
 continues state h armed may = record { deed = deeds.Continues armed; where_it = may; turn_is = refl }
 
@@ -242,7 +271,8 @@ quiet_deed state h armed is none =
     (record { is_armed = is; incomplete = λ swap found. absurd (none_some (sym none ∙ found)); ends = ends }))
 
 exchange_deed : (state : ModelState) (h : ℕ) (armed : Armed) → IsArmed state h armed → (found : Option Swap) →
-    next_conditional (shown_armed state h armed) h ≡ found → WhileArmed state h armed (exchange_rule state h armed found)
+    next_conditional (shown_armed state h armed) h ≡ found →
+    WhileArmed state h armed (exchange_rule state h armed found)
 exchange_deed state h armed is None found = quiet_deed state h armed is found
 exchange_deed state h armed is (Some swap) found =
     let shown = shown_armed state h armed in
@@ -254,16 +284,19 @@ exchange_deed state h armed is (Some swap) found =
       is_armed = is;
       incomplete = λ other next. ap (completes state h armed) (same_Some _ _ (sym next ∙ found)) ∙ incomplete;
       ends =
-          conditional_is_loud (is_some (next_touch shown h)) (is_store_conditional (next_insn shown h)) (calls_or_stops shown h)
+          conditional_is_loud (is_some (next_touch shown h)) (is_store_conditional (next_insn shown h))
+          (calls_or_stops shown h)
           (may_grow state armed) (chosen (is_store_conditional (next_insn shown h)) _ swap found);
     }))
 
-armed_deed : (state : ModelState) (h : ℕ) (armed : Armed) → IsArmed state h armed → IsDeed state h (armed_turn state h armed)
+armed_deed : (state : ModelState) (h : ℕ) (armed : Armed) → IsArmed state h armed →
+    IsDeed state h (armed_turn state h armed)
 unfolding armed_turn
 armed_deed state h armed is = exchange_deed state h armed is (next_conditional (shown_armed state h armed) h) refl
 
 outside_deed : (state : ModelState) (h : ℕ) → status_of state.committed h ≡ Running → has_request state h ≡ false →
-    section_of state h ≡ None → (armed : Option Armed) → armed_of state h ≡ armed → IsDeed state h (outside_turn state h armed)
+    section_of state h ≡ None → (armed : Option Armed) → armed_of state h ≡ armed →
+    IsDeed state h (outside_turn state h armed)
 outside_deed state h running free none None is =
     plain_deed state h (record { running = running; free = free; no_section = none; unarmed = is })
 outside_deed state h running free none (Some armed) is =
@@ -278,12 +311,13 @@ rolls_back : (state : ModelState) (h : ℕ) (section : Section) (cause : Cause) 
 unfolding by_section_rule
 rolls_back state h section cause must = record { deed = deeds.RollsBack section cause; where_it = must; turn_is = refl }
 
-buffers : (state : ModelState) (h : ℕ) (section : Section) (touch : Option Touch) → deeds.MayBuffer state h section touch →
-    Inside state h section (inside.Buffers touch)
+buffers : (state : ModelState) (h : ℕ) (section : Section) (touch : Option Touch) →
+    deeds.MayBuffer state h section touch → Inside state h section (inside.Buffers touch)
 unfolding by_section_rule
 buffers state h section touch may = record { deed = deeds.Buffers section touch; where_it = may; turn_is = refl }
 
-commits : (state : ModelState) (h : ℕ) (section : Section) → deeds.MayCommit state h section → Inside state h section inside.Commits
+commits : (state : ModelState) (h : ℕ) (section : Section) → deeds.MayCommit state h section →
+    Inside state h section inside.Commits
 unfolding by_section_rule
 commits state h section may = record { deed = deeds.Commits section; where_it = may; turn_is = refl }
 
@@ -299,18 +333,22 @@ misses_inside state h section touch room refused = record {
 bit_deed : (state : ModelState) (h : ℕ) (section : Section) (touch : Touch) → GoesFurther state h section →
     next_touch (shown_in state h section) h ≡ Some touch → Inside state h section (bit_rule state h touch)
 bit_deed state h section touch goes is =
-    by_test (Inside state h section) (is_covered (cache_of state h) touch.line touch.need) (inside.Buffers (Some touch)) _
+    by_test (Inside state h section) (is_covered (cache_of state h) touch.line touch.need)
+    (inside.Buffers (Some touch)) _
     (λ covered. buffers state h section (Some touch) (record { goes = goes; touches = is; coverable = inl covered }))
     (λ uncovered.
     let wants : WantsBit state h section touch = record { goes = goes; touches = is; uncovered = uncovered } in
     by_test (Inside state h section) (is_full state h touch.need) (inside.RollsBack Lines) _
     (λ full. rolls_back state h section Lines (record { touch = touch; wants = wants; full = full }))
     (λ not_full.
-    by_test (Inside state h section) (not (room_of state.config.ways (cache_of state h) touch.line)) (inside.RollsBack Room) _
+    by_test (Inside state h section) (not (room_of state.config.ways (cache_of state h) touch.line))
+    (inside.RollsBack Room) _
     (λ no_room. rolls_back state h section Room (record { touch = touch; wants = wants; no_room = not-true _ no_room }))
     (λ has_room.
-    let room : HasRoom state h section touch = record { wants = wants; not_full = not_full; room = not-false _ has_room } in
-    by_test (Inside state h section) (is_refused state h touch) (inside.Misses touch.line touch.need) (inside.Buffers (Some touch))
+    let room : HasRoom state h section touch =
+    record { wants = wants; not_full = not_full; room = not-false _ has_room } in
+    by_test (Inside state h section) (is_refused state h touch) (inside.Misses touch.line touch.need)
+    (inside.Buffers (Some touch))
     (λ refused. misses_inside state h section touch room refused)
     (λ granted.
     buffers state h section (Some touch) (record { goes = goes; touches = is; coverable = inr (room, granted) })))))
@@ -340,7 +378,8 @@ section_deed state h section live =
     by_test (Inside state h section) (stores_to_word shown h section.word) (inside.RollsBack Mixed) _
     (λ mixes. rolls_back state h section Mixed (record { goes_on = goes_on; releases = further; mixes = mixes }))
     (λ keeps.
-    bits_deed state h section (record { goes_on = goes_on; releases = further; mixes = keeps }) (next_touch shown h) refl))))
+    bits_deed state h section (record { goes_on = goes_on; releases = further; mixes = keeps })
+    (next_touch shown h) refl))))
 
 going_deed : (state : ModelState) (h : ℕ) → status_of state.committed h ≡ Running → has_request state h ≡ false →
     (section : Option Section) → section_of state h ≡ section → IsDeed state h (going_turn state h section)

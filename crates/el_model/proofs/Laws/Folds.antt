@@ -27,11 +27,13 @@ entries_from-append state (event ∷ events) second =
     ap (λ rest. record { event = event; outcome = (next state event).outcome } ∷ rest)
     (entries_from-append (next state event).state events second)
 
-pub length-outcomes_from : (state : ModelState) (events : List Event) → length (outcomes_from state events) ≡ length events
+pub length-outcomes_from : (state : ModelState) (events : List Event) →
+    length (outcomes_from state events) ≡ length events
 length-outcomes_from state [] = refl
 length-outcomes_from state (event ∷ events) = ap suc (length-outcomes_from (next state event).state events)
 
-pub length-entries_from : (state : ModelState) (events : List Event) → length (entries_from state events) ≡ length events
+pub length-entries_from : (state : ModelState) (events : List Event) →
+    length (entries_from state events) ≡ length events
 length-entries_from state [] = refl
 length-entries_from state (event ∷ events) = ap suc (length-entries_from (next state event).state events)
 
@@ -52,7 +54,8 @@ pub serial_run : (state : ModelState) (events : List Event) →
 serial_run state [] = refl
 serial_run state (event ∷ events) =
     serial_run (next state event).state events
-    ∙ ap (λ committed. run committed (serial (entries_from (next state event).state events))) (events_take_effect state event)
+    ∙ ap (λ committed. run committed (serial (entries_from (next state event).state events)))
+    (events_take_effect state event)
     ∙ sym
     (run_append state.committed (taking_effect event.hart.number (next state event).outcome)
     (serial (entries_from (next state event).state events)))

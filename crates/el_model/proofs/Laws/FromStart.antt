@@ -25,10 +25,12 @@ next_config state event =
     (λ step. ap (λ turn. turn.state.config) (step_deed state event.hart.number).turn_is) (λ turn done. done.config)
 
 -- a fact that each event keeps holds after all of them
-pub kept_after : (P : ModelState → Type 0) → ((state : ModelState) (event : Event) → P state → P (next state event).state) →
+pub kept_after : (P : ModelState → Type 0) →
+    ((state : ModelState) (event : Event) → P state → P (next state event).state) →
     (state : ModelState) (events : List Event) → P state → P (state_after state events)
 kept_after P keeps state [] now = now
-kept_after P keeps state (event ∷ events) now = kept_after P keeps (next state event).state events (keeps state event now)
+kept_after P keeps state (event ∷ events) now =
+    kept_after P keeps (next state event).state events (keeps state event now)
 
 record Stampless (state : ModelState) : Type 0 where
   mode : has_stamps state.config.mode ≡ false

@@ -38,7 +38,8 @@ claim_armed false request hart = refl
 
 -- a section that is lost leaves nothing armed
 try_armed : (hart : Hart) (last : Bool) →
-    (if last then record hart { tries = 0; fallback = true } else record hart { tries = hart.tries + 1 }).armed ≡ hart.armed
+    (if last then record hart { tries = 0; fallback = true } else record hart { tries = hart.tries + 1 }).armed
+    ≡ hart.armed
 try_armed hart true = refl
 try_armed hart false = refl
 

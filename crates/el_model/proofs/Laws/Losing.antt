@@ -1,5 +1,5 @@
--- what a loss leaves of a section, and whom a fate may name: a hart does not meet its own request, without a section it meets none, and
--- it loses to no hart that a machine does not have
+-- what a loss leaves of a section, and whom a fate may name: a hart does not meet its own request, without a section it
+-- meets none, and it loses to no hart that a machine does not have
 use Rattle.std.proofs.Common.{◌≡◌, ◌∙◌, ℕ, suc, ◌+◌, ◌<◌, ◌≤◌, Bool, true, false, ◌&&◌, not, ◌==◌, List, [], ◌∷◌}
 use Rattle.std.proofs.Common.{Option, Some, None, is_some, length, refl, ap, arith, if◌then◌else◌}
 use Rattle.std.specs.Prelude.{IfSome}
@@ -31,8 +31,12 @@ beaten_stands Plain winner hart = try_stands (out_of_section hart) (hart.tries +
 
 pub lost_section : (mode : Mode) (old : Standing) → (lost_in mode old).section ≡ None
 lost_section Tlr old = refl
-lost_section Sle old = by_test {A = Standing} (λ standing. standing.section ≡ None) (old.tries + 1 == most_tries) _ _ (λ last. refl) (λ more. refl)
-lost_section Plain old = by_test {A = Standing} (λ standing. standing.section ≡ None) (old.tries + 1 == most_tries) _ _ (λ last. refl) (λ more. refl)
+lost_section Sle old =
+    by_test {A = Standing} (λ standing. standing.section ≡ None) (old.tries + 1 == most_tries) _ _
+    (λ last. refl) (λ more. refl)
+lost_section Plain old =
+    by_test {A = Standing} (λ standing. standing.section ≡ None) (old.tries + 1 == most_tries) _ _
+    (λ last. refl) (λ more. refl)
 
 -- a hart does not meet its own request, and without a section it meets none
 unmet_if : (state : ModelState) (head : Request) (h : ℕ) (hart : Hart) (meets : Bool) → meets ≡ false →
@@ -55,23 +59,25 @@ outside_is_unmet state head h hart none =
     ∙ false_between (not (head.hart == h)) (meets_bit hart head.line head.need))
 
 -- the hart that wins over a told section is one of the machine's
-earlier_below : (stamp : ℕ → Option Stamp) (limit origin : ℕ) (other : Option ℕ) → origin < limit → IfSome other (λ o. o < limit) →
-    IfSome (earlier stamp (Some origin) other) (λ o. o < limit)
+earlier_below : (stamp : ℕ → Option Stamp) (limit origin : ℕ) (other : Option ℕ) → origin < limit →
+    IfSome other (λ o. o < limit) → IfSome (earlier stamp (Some origin) other) (λ o. o < limit)
 earlier_below stamp limit origin None below others = below
 earlier_below stamp limit origin (Some other) below others =
     by_test (λ found. IfSome found (λ o. o < limit)) (is_before (stamp other) (stamp origin)) (Some other) (Some origin)
     (λ first. others) (λ second. below)
 
-least_below : (test : ℕ → Bool) (stamp : ℕ → Option Stamp) (limit from : ℕ) (harts : List Hart) → from + length harts ≤ limit →
-    IfSome (least_such test stamp (count_up from harts)) (λ o. o < limit)
+least_below : (test : ℕ → Bool) (stamp : ℕ → Option Stamp) (limit from : ℕ) (harts : List Hart) →
+    from + length harts ≤ limit → IfSome (least_such test stamp (count_up from harts)) (λ o. o < limit)
 least_below test stamp limit from [] within = tt
 least_below test stamp limit from (hart ∷ harts) within =
     let rest = least_below test stamp limit (suc from) harts (omega arith) in
     by_test (λ found. IfSome found (λ o. o < limit)) (test from)
-    (earlier stamp (Some from) (least_such test stamp (count_up (suc from) harts))) (least_such test stamp (count_up (suc from) harts))
+    (earlier stamp (Some from) (least_such test stamp (count_up (suc from) harts)))
+    (least_such test stamp (count_up (suc from) harts))
     (λ taken. earlier_below stamp limit from _ (omega arith) rest) (λ passed. rest)
 
-told_below : (state : ModelState) (hart : Hart) (line : ℕ) → length state.harts ≤ 8 → IfSome (told_winner state hart line) (λ o. o < 8)
+told_below : (state : ModelState) (hart : Hart) (line : ℕ) → length state.harts ≤ 8 →
+    IfSome (told_winner state hart line) (λ o. o < 8)
 told_below state hart line few =
     least_below
     (λ origin. has hart.told origin && is_before (stamp_in (ordered_on state origin line)) hart.attempt)

@@ -10,7 +10,8 @@ use Rattle.el_model.specs.BusEvent.{Nothing, Places, Serves, Start, Takes, as_fa
 use Rattle.el_model.specs.Deliver.{after_probe, deliver_next, delivered, taken}
 use Rattle.el_model.specs.Armed.{let_go}
 use Rattle.el_model.specs.Face.{faced, met_if}
-use Rattle.el_model.specs.Order.{Alone, Behind, InFront, Place, marked_by, marked_from, marking, placed, placed_in_front, placed_last}
+use Rattle.el_model.specs.Order.{Alone, Behind, InFront, Place, marked_by, marked_from, marking, placed}
+use Rattle.el_model.specs.Order.{placed_in_front, placed_last}
 use Rattle.el_model.specs.Serve.{served}
 use Rattle.el_model.specs.State.{ModelState, head_of, ordered_of, hart_of}
 use Rattle.el_model.proofs.Laws.Tests.{by_test}
@@ -34,10 +35,13 @@ unfolding faced let_go
 met_order state None = refl
 met_order state (Some head) = refl
 
-pub placed_order : (state : ModelState) (request : Request) (place : Place) → (placed state request place).order ≡ order_at state request place
+pub placed_order : (state : ModelState) (request : Request) (place : Place) →
+    (placed state request place).order ≡ order_at state request place
 unfolding placed faced let_go
-placed_order state request InFront = marking_order (placed_in_front state request) request.hart (head_of state request.line)
-placed_order state request Behind = marked_by_order (placed_last state request) (tail_of state.order request.line) request.hart
+placed_order state request InFront =
+    marking_order (placed_in_front state request) request.hart (head_of state request.line)
+placed_order state request Behind =
+    marked_by_order (placed_last state request) (tail_of state.order request.line) request.hart
 placed_order state request Alone = refl
 
 pub served_order : (state : ModelState) (request : Request) →
@@ -49,7 +53,8 @@ pub message_order : (state : ModelState) (h : ℕ) (message : Message) → (deli
 unfolding delivered
 message_order state h (Marker sender) = refl
 message_order state h (Probe origin) =
-    by_test (λ new. new.order ≡ state.order) (has (hart_of state h).told origin) state (after_probe state h origin (ordered_of state origin))
+    by_test (λ new. new.order ≡ state.order) (has (hart_of state h).told origin) state
+    (after_probe state h origin (ordered_of state origin))
     (λ known. refl) (λ new. refl)
 
 pub mail_order : (state : ModelState) (h : ℕ) (mail : List Message) →
@@ -58,15 +63,19 @@ mail_order state h [] = refl
 mail_order state h (message ∷ others) = message_order (taken state h others) h message
 
 -- as a head is met, and as it is faced
-pub order_as_met : (state : ModelState) (by : ℕ) (start : Start) → (as_met state by start).order ≡ order_after state start
+pub order_as_met : (state : ModelState) (by : ℕ) (start : Start) →
+    (as_met state by start).order ≡ order_after state start
 order_as_met state by Nothing = refl
-order_as_met state by (Places request InFront) = marking_order (placed_in_front state request) request.hart (head_of state request.line)
-order_as_met state by (Places request Behind) = marked_by_order (placed_last state request) (tail_of state.order request.line) request.hart
+order_as_met state by (Places request InFront) =
+    marking_order (placed_in_front state request) request.hart (head_of state request.line)
+order_as_met state by (Places request Behind) =
+    marked_by_order (placed_last state request) (tail_of state.order request.line) request.hart
 order_as_met state by (Places request Alone) = refl
 order_as_met state by (Serves request) = served_order state request
 order_as_met state by (Takes message others) = refl
 
-pub order_as_faced : (state : ModelState) (by : ℕ) (start : Start) (head : Request) → (as_faced state by start head).order ≡ order_after state start
+pub order_as_faced : (state : ModelState) (by : ℕ) (start : Start) (head : Request) →
+    (as_faced state by start head).order ≡ order_after state start
 unfolding let_go
 order_as_faced state by start head = order_as_met state by start
 

@@ -7,9 +7,11 @@ use Rattle.el_base.specs.declared.config.Mode.TheVariants.{Plain, Sle, Tlr}
 use Rattle.el_base.specs.declared.events.Event.{Event}
 use Rattle.el_model.specs.Armed.{let_go_hart}
 use Rattle.el_model.specs.Attempts.{opened}
-use Rattle.el_model.specs.BusEvent.{Becomes, IsAbsent, IsAnswered, IsBehind, IsDeferred, IsForwarded, IsLetGo, IsPassed, IsPosted, IsSent, IsToldOn, LosesIt}
+use Rattle.el_model.specs.BusEvent.{Becomes, IsAbsent, IsAnswered, IsBehind, IsDeferred, IsForwarded, IsLetGo, IsPassed}
+use Rattle.el_model.specs.BusEvent.{IsPosted, IsSent, IsToldOn, LosesIt}
 use Rattle.el_model.specs.BusEvent.{Nothing, Places, Sees, Serves, Start, Starts, StartsWhere, Takes, started}
-use Rattle.el_model.specs.Deed.{Arms, Begins, Buffers, Commits, Continues, Deed, Elides, LetsGo, Misses, Rests, RollsBack, Runs, Waits, hart_after}
+use Rattle.el_model.specs.Deed.{Arms, Begins, Buffers, Commits, Continues, Deed, Elides, LetsGo, Misses, Rests}
+use Rattle.el_model.specs.Deed.{RollsBack, Runs, Waits, hart_after}
 use Rattle.el_model.specs.Next.{next, step_turn}
 use Rattle.el_model.specs.Plain.{after_candidate, candidate_of}
 use Rattle.el_model.specs.Quiet.{IsSilent, has_stamps}
@@ -30,8 +32,8 @@ pub new_is_silent : (sets : ℕ) → IsSilent (new_hart sets)
 new_is_silent sets = record { mail = refl; told = refl; upstream = refl; attempt = refl }
 
 -- the same mailbox, sets and attempt
-still_silent : (old new : Hart) → new.mail ≡ old.mail → new.told ≡ old.told → new.upstream ≡ old.upstream → new.attempt ≡ old.attempt →
-    IsSilent old → IsSilent new
+still_silent : (old new : Hart) → new.mail ≡ old.mail → new.told ≡ old.told → new.upstream ≡ old.upstream →
+    new.attempt ≡ old.attempt → IsSilent old → IsSilent new
 still_silent old new mail told upstream attempt silent = record {
   mail = mail ∙ silent.mail;
   told = told ∙ silent.told;
@@ -45,7 +47,8 @@ try_silent hart true silent = still_silent hart (record hart { tries = 0; fallba
 try_silent hart false silent = still_silent hart (record hart { tries = hart.tries + 1 }) refl refl refl refl silent
 
 beaten_silent : (mode : Mode) (winner : Option Stamp) (hart : Hart) → IsSilent hart → IsSilent (beaten mode winner hart)
-beaten_silent Tlr winner hart silent = record { mail = silent.mail; told = silent.told; upstream = silent.upstream; attempt = silent.attempt }
+beaten_silent Tlr winner hart silent =
+    record { mail = silent.mail; told = silent.told; upstream = silent.upstream; attempt = silent.attempt }
 beaten_silent Sle winner hart silent =
     try_silent (out_of_section hart) (hart.tries + 1 == most_tries)
     (record { mail = silent.mail; told = silent.told; upstream = silent.upstream; attempt = silent.attempt })
@@ -63,7 +66,12 @@ serving_silent state request hart true silent =
     claim_silent (is_some hart.section) request _
     (record { mail = rw silent.mail refl; told = rw silent.told refl; upstream = refl; attempt = silent.attempt })
 serving_silent state request hart false silent =
-    record { mail = rw silent.mail refl; told = rw silent.told refl; upstream = silent.upstream; attempt = silent.attempt }
+    record {
+      mail = rw silent.mail refl;
+      told = rw silent.told refl;
+      upstream = silent.upstream;
+      attempt = silent.attempt;
+    }
 
 -- no message is posted, and none is taken
 stamped : {X : Type 0} (mode : Mode) → has_stamps mode ≡ false → mode ≡ Tlr → X
@@ -78,10 +86,14 @@ none_posted : {X : Type 0} (state : ModelState) (by : ℕ) {start : Start} {h : 
     All IsSilent state → StartsWhere state by start → IsPosted state by start h message → X
 none_posted state by stampless all where_it (IsBehind request last mode is) = stamped state.config.mode stampless mode
 none_posted state by stampless all where_it (IsPassed request former mode is) = stamped state.config.mode stampless mode
-none_posted state by stampless all where_it (IsDeferred start head h defers below) = stamped state.config.mode stampless defers.mode
-none_posted state by stampless all where_it (IsAnswered sender others) = none_taken (hart_of state by) _ _ (all by) where_it
-none_posted state by stampless all where_it (IsToldOn sender others origin tells) = none_taken (hart_of state by) _ _ (all by) where_it
-none_posted state by stampless all where_it (IsForwarded origin others h forwards) = none_taken (hart_of state by) _ _ (all by) where_it
+none_posted state by stampless all where_it (IsDeferred start head h defers below) =
+    stamped state.config.mode stampless defers.mode
+none_posted state by stampless all where_it (IsAnswered sender others) =
+    none_taken (hart_of state by) _ _ (all by) where_it
+none_posted state by stampless all where_it (IsToldOn sender others origin tells) =
+    none_taken (hart_of state by) _ _ (all by) where_it
+none_posted state by stampless all where_it (IsForwarded origin others h forwards) =
+    none_taken (hart_of state by) _ _ (all by) where_it
 
 started_silent : (state : ModelState) (by : ℕ) (start : Start) (h : ℕ) → All IsSilent state →
     StartsWhere state by start →
@@ -90,19 +102,23 @@ started_silent state by Nothing h all where_it = all h
 started_silent state by (Places request place) h all where_it =
     by_test IsSilent (h == request.hart) (record (hart_of state h) { raised = None }) (hart_of state h)
     (λ own. still_silent (hart_of state h) _ refl refl refl refl (all h)) (λ other. all h)
-started_silent state by (Serves request) h all where_it = serving_silent state request (hart_of state h) (h == request.hart) (all h)
-started_silent state by (Takes message others) h all where_it = none_taken (hart_of state by) message others (all by) where_it
+started_silent state by (Serves request) h all where_it =
+    serving_silent state request (hart_of state h) (h == request.hart) (all h)
+started_silent state by (Takes message others) h all where_it =
+    none_taken (hart_of state by) message others (all by) where_it
 
 becomes_silent : (state : ModelState) (by : ℕ) (start : Start) (h : ℕ) {lost : Option ℕ} {hart : Hart} →
     has_stamps state.config.mode ≡ false →
     All IsSilent state → StartsWhere state by start → Becomes state by start h lost hart → IsSilent hart
 becomes_silent state by start h stampless all where_it (IsAbsent past) = all h
 becomes_silent state by start h stampless all where_it (Starts below) = started_silent state by start h all where_it
-becomes_silent state by start h stampless all where_it (IsSent message lost hart sent now) = none_posted state by stampless all where_it sent
+becomes_silent state by start h stampless all where_it (IsSent message lost hart sent now) =
+    none_posted state by stampless all where_it sent
 becomes_silent state by start h stampless all where_it (IsLetGo head hart frees now) =
     still_silent hart (let_go_hart (view_of state.committed h).pc hart) refl refl refl refl
     (becomes_silent state by start h stampless all where_it now)
-becomes_silent state by start h stampless all where_it (Sees head lost hart defers now) = stamped state.config.mode stampless defers.mode
+becomes_silent state by start h stampless all where_it (Sees head lost hart defers now) =
+    stamped state.config.mode stampless defers.mode
 becomes_silent state by start h stampless all where_it (LosesIt winner stamp hart loses now) =
     beaten_silent state.config.mode stamp hart (becomes_silent state by start h stampless all where_it now)
 
@@ -132,7 +148,8 @@ deed_silent state h (Begins swap) hart stampless silent = record {
   attempt = opened_none state.config.mode h hart.clock hart.attempt stampless silent.attempt;
 }
 deed_silent state h (Buffers section touch) hart stampless silent = still_silent hart _ refl refl refl refl silent
-deed_silent state h (Commits section) hart stampless silent = record { mail = silent.mail; told = silent.told; upstream = silent.upstream; attempt = refl }
+deed_silent state h (Commits section) hart stampless silent =
+    record { mail = silent.mail; told = silent.told; upstream = silent.upstream; attempt = refl }
 deed_silent state h (RollsBack section cause) hart stampless silent =
     record { mail = silent.mail; told = silent.told; upstream = silent.upstream; attempt = refl }
 deed_silent state h (Arms word) hart stampless silent = still_silent hart _ refl refl refl refl silent

@@ -12,7 +12,8 @@ by_test P false x y then_x then_y = then_y refl
 pub by_hart : {A : Type 0} (P : A → Type 0) (h other : ℕ) (x y : A) → (h ≡ other → P x) → (h ≢ other → P y) →
     P (if h == other then x else y)
 by_hart P h other x y same apart =
-    by_test P (h == other) x y (λ is. same (number_of_test h other is)) (λ is. apart (λ equal. differ (sym is ∙ own_of equal)))
+    by_test P (h == other) x y (λ is. same (number_of_test h other is))
+    (λ is. apart (λ equal. differ (sym is ∙ own_of equal)))
   where
     differ : false ≡ true → ⊥
     differ wrong = absurd (cc)

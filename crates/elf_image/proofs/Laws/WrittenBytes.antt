@@ -1,12 +1,15 @@
 -- The words and headers of a written image read back.
-use Rattle.std.proofs.Common.{◌≡◌, ◌<◌, ℕ, zero, suc, ◌+◌, ◌*◌, ◌^◌, true, List, [], ◌∷◌, ◌++◌, length, slice_index, refl, ap, arith}
+use Rattle.std.proofs.Common.{◌≡◌, ◌<◌, ℕ, zero, suc, ◌+◌, ◌*◌, ◌^◌, true, List, [], ◌∷◌, ◌++◌, length, slice_index}
+use Rattle.std.proofs.Common.{refl, ap, arith}
 use Rattle.std.specs.Prelude.{nat_le}
 use Rattle.std.proofs.lemmas.Bool.{le-leb}
 use Rattle.byteorder.specs.Endian.{little_bytes}
 use Rattle.byteorder.specs.Numbers.{little_number-reads_back}
 use Rattle.elf_image.specs.declared.built.Built.{Built}
-use Rattle.elf_image.specs.Built.{IsBuildable, words_len, data_len, data_start, built_header, words_header, data_header, image_file}
-use Rattle.elf_image.specs.Header.{file_header, file_header_bytes, program_header, program_header_bytes, headers_at, program_headers}
+use Rattle.elf_image.specs.Built.{IsBuildable, words_len, data_len, data_start, built_header, words_header, data_header}
+use Rattle.elf_image.specs.Built.{image_file}
+use Rattle.elf_image.specs.Header.{file_header, file_header_bytes, program_header, program_header_bytes, headers_at}
+use Rattle.elf_image.specs.Header.{program_headers}
 use Rattle.elf_image.specs.Layout.{segments_of}
 use Rattle.elf_image.specs.Numbers.{ReadBack, word_at, word_bytes}
 
@@ -34,7 +37,17 @@ unfolding image_file file_header file_header_bytes program_header_bytes
 file_header_back built ok =
     let entry = word_back built.entry [] (omega (arith, ok.entry_not_behind, ok.not_high)) in
     ap
-    (λ (e : ℕ). record { e_type = 2; e_machine = 243; e_version = 1; e_entry = e; e_phoff = 52; e_flags = 0; e_ehsize = 52; e_phentsize = 32; e_phnum = 2 })
+    (λ (e : ℕ). record {
+      e_type = 2;
+      e_machine = 243;
+      e_version = 1;
+      e_entry = e;
+      e_phoff = 52;
+      e_flags = 0;
+      e_ehsize = 52;
+      e_phentsize = 32;
+      e_phnum = 2;
+    })
     entry
 
 words_header_back : (built : Built) → IsBuildable built → program_header (image_file built) 52 ≡ words_header built
@@ -54,11 +67,13 @@ data_header_back built ok =
     cc
 
 -- the table of a written image
-pub table_back : (built : Built) → IsBuildable built → program_headers (image_file built) ≡ words_header built ∷ data_header built ∷ []
+pub table_back : (built : Built) → IsBuildable built →
+    program_headers (image_file built) ≡ words_header built ∷ data_header built ∷ []
 unfolding program_headers headers_at
 table_back built ok = rw (file_header_back built ok, words_header_back built ok, data_header_back built ok) refl
 
-pub segments_back : (built : Built) → IsBuildable built → segments_of (image_file built) ≡ words_header built ∷ data_header built ∷ []
+pub segments_back : (built : Built) → IsBuildable built →
+    segments_of (image_file built) ≡ words_header built ∷ data_header built ∷ []
 unfolding segments_of
 segments_back built ok =
     let words : nat_le 1 (words_len built) ≡ true = le-leb 1 (words_len built) (omega (arith, ok.some_word)) in

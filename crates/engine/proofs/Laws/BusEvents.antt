@@ -1,5 +1,6 @@
 -- the parts after an event of the bus
-use Rattle.std.proofs.Common.{◌≡◌, ◌≢◌, ◌∙◌, ℕ, zero, suc, ◌+◌, ◌≤◌, ◌<◌, false, List, Option, Some, None, is_some, length, refl, ap, sym, subst, arith}
+use Rattle.std.proofs.Common.{◌≡◌, ◌≢◌, ◌∙◌, ℕ, zero, suc, ◌+◌, ◌≤◌, ◌<◌, false, List, Option, Some, None, is_some}
+use Rattle.std.proofs.Common.{length, refl, ap, sym, subst, arith}
 use Rattle.std.specs.Prelude.{◌==◌, IsSome, if◌then◌else◌, option_map, slice_index}
 use Rattle.std.proofs.lemmas.Bool.Decides.{nat_tests}
 use Rattle.residency.specs.Residency.{Way}
@@ -20,7 +21,8 @@ use Rattle.coherence.specs.Lent.{LeavesHolds, LeavesOwner}
 use Rattle.engine.proofs.Framed.{hold_lent, own_left, told_left}
 use Rattle.engine.proofs.Reaching.{lets_go, loses, numbered, runs_armed, survives_event}
 use Rattle.engine.proofs.Reserved.{kept_as, unarmed, unlive}
-use Rattle.engine.specs.Parts.{IsInState, IsOfHart, KeepsReserved, KeepsSection, KeepsSectionOf, Parts, StandsAs, hold_owner, own_at}
+use Rattle.engine.specs.Parts.{IsInState, IsOfHart, KeepsReserved, KeepsSection, KeepsSectionOf, Parts, StandsAs}
+use Rattle.engine.specs.Parts.{hold_owner, own_at}
 use Rattle.engine.specs.Lent.{LeavesKept, LendsHolds}
 use Rattle.engine.specs.Reached.{IsReached, EngineStands}
 use Rattle.engine.specs.Restored.{AreRestored, freed_own, own_after}
@@ -60,27 +62,32 @@ shown_after bus state event turn is reached no_step shows =
     subst (λ t. Shows bus t.state) (sym is)
     (shows (subst (λ t. KeepsBytes state.committed t.state.committed) is (bytes_kept state event reached no_step)))
 
-pub order_is : (state : ModelState) (event : Event) → event.kind ≡ kinds.Order → next state event ≡ order_turn state event.hart.number
+pub order_is : (state : ModelState) (event : Event) → event.kind ≡ kinds.Order →
+    next state event ≡ order_turn state event.hart.number
 unfolding next
 order_is state event is = ap (kind_turn state event.hart.number) is
 
-pub serve_is : (state : ModelState) (event : Event) → event.kind ≡ kinds.Serve → next state event ≡ serve_turn state event.hart.number
+pub serve_is : (state : ModelState) (event : Event) → event.kind ≡ kinds.Serve →
+    next state event ≡ serve_turn state event.hart.number
 unfolding next
 serve_is state event is = ap (kind_turn state event.hart.number) is
 
 -- a section that survives is still kept
-pub kept_survives : (pool : Pooled) (state new : ModelState) (g : ℕ) (section : Section) (kept : SectionState) → Survives state new g section →
-    KeepsSection pool state g section kept → KeepsSection pool new g section kept
+pub kept_survives : (pool : Pooled) (state new : ModelState) (g : ℕ) (section : Section) (kept : SectionState) →
+    Survives state new g section → KeepsSection pool state g section kept → KeepsSection pool new g section kept
 kept_survives pool state new g section kept survives keeps = record {
   run =
-      kept_survive g (cache_of state g) section state.committed new.committed kept.marks.present (hold_in pool kept).entries survives.covered
+      kept_survive g (cache_of state g) section state.committed new.committed kept.marks.present
+      (hold_in pool kept).entries survives.covered
       survives.change keeps.marked keeps.run;
-  marked = marks_stay (cache_of state g) (cache_of new g) (hold_in pool kept).entries survives.keeps.bits.written keeps.marked;
+  marked =
+      marks_stay (cache_of state g) (cache_of new g) (hold_in pool kept).entries
+      survives.keeps.bits.written keeps.marked;
 }
 
 -- where memory and a hart's view stay, what is committed has changed beside the hart alone
-beside : (old new : FlatState) (g : ℕ) (cache : List (List Way)) → KeepsAllButViews old new → view_of new g ≡ view_of old g →
-    IsChangeBeside g cache old new
+beside : (old new : FlatState) (g : ℕ) (cache : List (List Way)) → KeepsAllButViews old new →
+    view_of new g ≡ view_of old g → IsChangeBeside g cache old new
 beside old new g cache keeps view = record {
   base = keeps.base;
   code = keeps.code;
@@ -92,14 +99,16 @@ beside old new g cache keeps view = record {
 
 -- what is kept of an armed section that goes on
 armed_goes_on : (state new : ModelState) (g : ℕ) (kept : Option Reserved) (present : HartView) → IsReached state →
-    option_map (λ reserved. reserved.armed) kept ≡ armed_of state g → IsChangeBeside g (cache_of state g) state.committed new.committed →
-    KeepsReserved state.committed g kept present → KeepsReserved new.committed g kept present
+    option_map (λ reserved. reserved.armed) kept ≡ armed_of state g →
+    IsChangeBeside g (cache_of state g) state.committed new.committed → KeepsReserved state.committed g kept present →
+    KeepsReserved new.committed g kept present
 armed_goes_on state new g None present reached is change keeps = tt
 armed_goes_on state new g (Some reserved) present reached is change keeps =
     kept_armed_survive g (cache_of state g) reserved.armed state.committed new.committed reserved.old present
     (runs_armed state g reserved.armed reached (sym is)) change keeps
 
-module _ (pool : Pooled) (state : ModelState) (event : Event) (g : ℕ) (own : OwnState) (reached : IsReached state) (bus : event.kind ≢ kinds.Step)
+module _ (pool : Pooled) (state : ModelState) (event : Event) (g : ℕ) (own : OwnState) (reached : IsReached state)
+    (bus : event.kind ≢ kinds.Step)
     (below : g < length state.harts) (is : IsOfHart pool state g own) where
   abbrev new : ModelState
   new = (next state event).state
@@ -123,8 +132,8 @@ module _ (pool : Pooled) (state : ModelState) (event : Event) (g : ℕ) (own : O
   limit_is = is.limit ∙ ap (λ config. config.lines) (sym keeps.config)
 
   -- a section that the hart has not lost goes on, if it has one
-  goes_on : (live : Option Section) → section_of state g ≡ live → section_of new g ≡ live → KeepsSectionOf pool state g live own.section →
-      KeepsSectionOf pool new g live own.section
+  goes_on : (live : Option Section) → section_of state g ≡ live → section_of new g ≡ live →
+      KeepsSectionOf pool state g live own.section → KeepsSectionOf pool new g live own.section
   goes_on None was now kept = tt
   goes_on (Some section) was now kept =
       kept_survives pool state new g section own.section
@@ -145,7 +154,9 @@ module _ (pool : Pooled) (state : ModelState) (event : Event) (g : ℕ) (own : O
           tries = is.part.tries ∙ sym (ap (λ s. s.tries) standing);
         };
         view = is.view ∙ sym (goes.stays_view g none);
-        section = subst (λ live. KeepsSectionOf pool new g live own.section) (sym same) (goes_on (section_of state g) refl same is.section);
+        section =
+            subst (λ live. KeepsSectionOf pool new g live own.section) (sym same)
+            (goes_on (section_of state g) refl same is.section);
         armed =
             armed_goes_on state new g own.section.armed own.section.marks.present reached is.part.armed
             (beside state.committed new.committed g (cache_of state g) goes.memory (goes.stays_view g none)) is.armed;
@@ -156,7 +167,8 @@ module _ (pool : Pooled) (state : ModelState) (event : Event) (g : ℕ) (own : O
       }
 
   -- one that is let go
-  is_let_go : winner_over (next state event).outcome g ≡ None → 1 ≤ count_in freed g → IsOfHart pool new g (let_go_own own)
+  is_let_go : winner_over (next state event).outcome g ≡ None → 1 ≤ count_in freed g →
+      IsOfHart pool new g (let_go_own own)
   is_let_go named some =
       let gone = goes.lets_go g some in
       let standing = stands_as None named in
@@ -179,7 +191,8 @@ module _ (pool : Pooled) (state : ModelState) (event : Event) (g : ℕ) (own : O
         };
         view = keeps_it.view ∙ ap (λ n. view_of (alone state.committed g n) g) gone.count_is ∙ sym gone.view;
         section =
-            subst (λ live. KeepsSectionOf pool new g live (let_go_own own).section) (sym (same ∙ sym is.part.section ∙ none)) tt;
+            subst (λ live. KeepsSectionOf pool new g live (let_go_own own).section)
+            (sym (same ∙ sym is.part.section ∙ none)) tt;
         armed = tt;
         stands = record {
           unmarked = refl;
@@ -216,10 +229,12 @@ module _ (pool : Pooled) (state : ModelState) (event : Event) (g : ℕ) (own : O
       let none = none_freed lost.section lost.live in
       record {
         part =
-            lost_is state.config.mode own (hart_of state g) (hart_of new g) is.part (stands_as (Some winner) named) (keeps.predictors g)
+            lost_is state.config.mode own (hart_of state g) (hart_of new g) is.part (stands_as (Some winner) named)
+            (keeps.predictors g)
             (goes.stays_armed g none ∙ not_armed lost.section lost.live) (goes.stays_last g none);
         view = is.view ∙ sym (goes.stays_view g none);
-        section = subst (λ live. KeepsSectionOf left new g live (lost_own state.config.mode own).section) (sym lost.over) tt;
+        section =
+            subst (λ live. KeepsSectionOf left new g live (lost_own state.config.mode own).section) (sym lost.over) tt;
         armed = tt;
         stands = record { unmarked = refl; empty = refl };
         limit = limit_is;
@@ -240,24 +255,30 @@ module _ (pool : Pooled) (state : ModelState) (event : Event) (g : ℕ) (own : O
       by zero none = stays named none
       by (suc n) some =
           let apart : (suc n == 0) ≡ false = grind (arith, nat_tests) in
-          subst (λ none. IsOfHart pool new g (if none then own else let_go_own own)) (sym apart) (is_let_go named (omega (arith, some)))
+          subst (λ none. IsOfHart pool new g (if none then own else let_go_own own)) (sym apart)
+          (is_let_go named (omega (arith, some)))
 
 -- all parts
-pub after_bus : (old mid new : Parts) (state : ModelState) (event : Event) (winner : ℕ → Option ℕ) (freed : Freed) → event.kind ≢ kinds.Step →
-    IsReached state → IsInState old state → mid ≡ record old { pool = mid.pool; bus = mid.bus } →
-    new ≡ record mid { pool = new.pool; harts = new.harts } → Shows mid.bus (next state event).state →
-    Tells mid.pool mid.bus (line_of (next state event).state.committed) → LeavesHolds old.pool mid.pool → LendsHolds new.pool new.harts →
-    LeavesKept winner mid.pool new.pool → ((g : ℕ) → winner_over (next state event).outcome g ≡ winner g) →
-    freed ≡ freed_of_outcome (next state event).outcome →
-    AreRestored mid.config.mode winner (λ g. count_in freed g) mid.harts new.harts → IsInState new (next state event).state
-after_bus old mid new state event winner freed bus reached is mid_is new_is shows told holds lent kept named freed_is restored_mid =
-    let restored = subst (λ p. AreRestored p.config.mode winner (λ g. count_in freed g) p.harts new.harts) mid_is restored_mid in
+pub after_bus : (old mid new : Parts) (state : ModelState) (event : Event) (winner : ℕ → Option ℕ) (freed : Freed) →
+    event.kind ≢ kinds.Step → IsReached state → IsInState old state →
+    mid ≡ record old { pool = mid.pool; bus = mid.bus } → new ≡ record mid { pool = new.pool; harts = new.harts } →
+    Shows mid.bus (next state event).state → Tells mid.pool mid.bus (line_of (next state event).state.committed) →
+    LeavesHolds old.pool mid.pool → LendsHolds new.pool new.harts → LeavesKept winner mid.pool new.pool →
+    ((g : ℕ) → winner_over (next state event).outcome g ≡ winner g) →
+    freed ≡ freed_of_outcome (next state event).outcome → AreRestored mid.config.mode winner (λ g. count_in freed g)
+    mid.harts new.harts → IsInState new (next state event).state
+after_bus old mid new state event winner freed bus reached is mid_is new_is shows told holds lent kept named
+    freed_is restored_mid =
+    let restored =
+    subst (λ p. AreRestored p.config.mode winner (λ g. count_in freed g) p.harts new.harts) mid_is restored_mid in
     let keeps = bus_events_keep state event bus in
     let memory = (lets_go state event reached bus).memory in
     let config : new.config ≡ old.config = ap (λ p. p.config) new_is ∙ ap (λ p. p.config) mid_is in
     record {
       config = config ∙ is.config ∙ sym keeps.config;
-      span = ap (λ p. p.span) new_is ∙ ap (λ p. p.span) mid_is ∙ is.span ∙ same_span state.committed (next state event).state.committed memory;
+      span =
+          ap (λ p. p.span) new_is ∙ ap (λ p. p.span) mid_is ∙ is.span
+          ∙ same_span state.committed (next state event).state.committed memory;
       shows = subst (λ b. Shows b (next state event).state) (sym (ap (λ p. p.bus) new_is)) shows;
       told =
           subst (λ b. Tells new.pool b (line_of (next state event).state.committed)) (sym (ap (λ p. p.bus) new_is))
@@ -267,12 +288,15 @@ after_bus old mid new state event winner freed bus reached is mid_is new_is show
       harts = λ g below.
           let inside : g < length old.harts = subst (λ n. g < n) restored.number below in
           let left =
-          restored.each g inside ∙ ap (λ c. own_after c.mode (winner g) (count_in freed g) (own_at old.harts g)) is.config
+          restored.each g inside ∙ ap (λ c. own_after c.mode (winner g) (count_in freed g) (own_at old.harts g))
+          is.config
           ∙ ap (λ f. own_after state.config.mode (winner g) (count_in f g) (own_at old.harts g)) freed_is in
           subst (IsOfHart new.pool (next state event).state g) (sym left)
-          (hart_after old.pool state event g (own_at old.harts g) reached bus (subst (λ n. g < n) is.one_each inside) (is.harts g inside) new.pool
+          (hart_after old.pool state event g (own_at old.harts g) reached bus (subst (λ n. g < n) is.one_each inside)
+          (is.harts g inside) new.pool
           (winner g) (named g)
-          (λ none. leaves_owner-then (hold_owner g) old.pool mid.pool new.pool (holds (hold_owner g) (omega arith)) (kept.holds g none))
+          (λ none. leaves_owner-then (hold_owner g) old.pool mid.pool new.pool (holds (hold_owner g) (omega arith))
+          (kept.holds g none))
           (subst (λ (own : OwnState). IsLent new.pool own.section.hold) left (lent g below).lent));
       code = ap (λ p. p.code) new_is ∙ ap (λ p. p.code) mid_is ∙ is.code ∙ sym memory.code;
       output = ap (λ p. p.output) new_is ∙ ap (λ p. p.output) mid_is ∙ is.output ∙ sym memory.output;
@@ -284,13 +308,15 @@ after_bus old mid new state event winner freed bus reached is mid_is new_is show
         ∙ ap (λ n. record { base = new.base; end = new.base + n }) (sym (ap length keeps.bytes))
 
 -- a loser has a live section
-pub had_section : (old mid : Parts) (stands : EngineStands old) (event : Event) (g winner : ℕ) → mid ≡ record old { pool = mid.pool; bus = mid.bus } →
-    g < length mid.harts → winner_over (next stands.state event).outcome g ≡ Some winner → IsSome (own_at mid.harts g).section.live
+pub had_section : (old mid : Parts) (stands : EngineStands old) (event : Event) (g winner : ℕ) →
+    mid ≡ record old { pool = mid.pool; bus = mid.bus } → g < length mid.harts →
+    winner_over (next stands.state event).outcome g ≡ Some winner → IsSome (own_at mid.harts g).section.live
 had_section old mid stands event g winner mid_is inside named =
     let harts = ap (λ p. p.harts) mid_is in
     let live =
     ap (λ h. (own_at h g).section.live) harts
-    ∙ (stands.is_in.harts g (subst (λ h. g < length h) harts inside)).part.section ∙ (loses stands.state event g winner stands.reached named).live in
+    ∙ (stands.is_in.harts g (subst (λ h. g < length h) harts inside)).part.section
+    ∙ (loses stands.state event g winner stands.reached named).live in
     subst IsSome (sym live) refl
 
 -- and one that is let go an armed one
@@ -306,8 +332,8 @@ was_armed old mid stands event g bus mid_is inside some =
     subst IsSome (sym (ap (λ h. (own_at h g).section.armed) harts ∙ kept.is)) refl
 
 -- the pool lends the holds of all harts still
-pub holds_lent : (old mid : Parts) (stands : EngineStands old) → mid ≡ record old { pool = mid.pool; bus = mid.bus } → LeavesHolds old.pool mid.pool →
-    LendsHolds mid.pool mid.harts
+pub holds_lent : (old mid : Parts) (stands : EngineStands old) → mid ≡ record old { pool = mid.pool; bus = mid.bus } →
+    LeavesHolds old.pool mid.pool → LendsHolds mid.pool mid.harts
 holds_lent old mid stands mid_is leaves =
     subst (LendsHolds mid.pool) (sym (ap (λ p. p.harts) mid_is))
     (λ g inside.
@@ -333,4 +359,5 @@ few_harts parts stands = subst (λ n. n ≤ 8) (agent_each parts stands) stands.
 pub mode_wins : (parts : Parts) (request holder : Option stamps.Stamp) → EngineStands parts →
     wins_of parts.config.mode request holder ≡ wins_of parts.bus.mode request holder
 mode_wins parts request holder stands =
-    ap (λ mode. wins_of mode request holder) (ap (λ config. config.mode) stands.is_in.config ∙ sym stands.is_in.shows.mode)
+    ap (λ mode. wins_of mode request holder)
+    (ap (λ config. config.mode) stands.is_in.config ∙ sym stands.is_in.shows.mode)

@@ -48,7 +48,8 @@ rests state event is = rests_by state event.hart.number event.kind is
 
 pub resting_state : (parts : Parts) (state : ModelState) (event : Event) → finds_nothing state event ≡ true →
     IsInState parts state → IsInState parts (next state event).state
-resting_state parts state event is inside = subst (λ turn. IsInState parts turn.state) (sym (rests state event is)) inside
+resting_state parts state event is inside =
+    subst (λ turn. IsInState parts turn.state) (sym (rests state event is)) inside
 
 pub resting_outcome : (state : ModelState) (event : Event) → finds_nothing state event ≡ true →
     Idle ≡ (next state event).outcome

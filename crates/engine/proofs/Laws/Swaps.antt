@@ -30,7 +30,8 @@ pub record IsSwapOf (action : Action) (swap : Swap) : Type 0 where
   pub source : ℕ
   pub is : action ≡ actions.Amo op rd swap.word source
 
-pub swap_action : (byte : ℕ → ℕ) (action : Action) (swap : Swap) → swap_by byte action ≡ Some swap → IsSwapOf action swap
+pub swap_action : (byte : ℕ → ℕ) (action : Action) (swap : Swap) → swap_by byte action ≡ Some swap →
+    IsSwapOf action swap
 swap_action byte (actions.Amo op rd address source) swap is =
     by (is_swap_op op) (record { word = address; old = loaded byte address 4; new = source }) refl is
   where
@@ -50,7 +51,8 @@ pub record IsConditionalOf (action : Action) (swap : Swap) : Type 0 where
   pub rd : Reg
   pub is : action ≡ actions.StoreConditional rd swap.word swap.new
 
-pub conditional_action : (byte : ℕ → ℕ) (action : Action) (swap : Swap) → conditional_by byte action ≡ Some swap → IsConditionalOf action swap
+pub conditional_action : (byte : ℕ → ℕ) (action : Action) (swap : Swap) → conditional_by byte action ≡ Some swap →
+    IsConditionalOf action swap
 conditional_action byte (actions.StoreConditional rd address value) swap is =
     let same = same_Some (record { word = address; old = loaded byte address 4; new = value }) swap is in
     record { rd = rd; is = ap (λ s. actions.StoreConditional rd s.word s.new) same }
@@ -62,7 +64,8 @@ pub record IsReserveOf (action : Action) (word : ℕ) : Type 0 where
   pub is : action ≡ actions.LoadReserved rd word
 
 pub reserve_action : (action : Action) (word : ℕ) → reserved_by action ≡ Some word → IsReserveOf action word
-reserve_action (actions.LoadReserved rd address) word is = record { rd = rd; is = ap (actions.LoadReserved rd) (same_Some address word is) }
+reserve_action (actions.LoadReserved rd address) word is =
+    record { rd = rd; is = ap (actions.LoadReserved rd) (same_Some address word is) }
 reserve_action _ word is = none_some is
 
 pub same_reserve : (action : Action) (word : ℕ) (rd : Reg) (address : ℕ) → IsReserveOf action word →
@@ -93,12 +96,13 @@ exchange_writes byte (actions.StoreConditional rd address value) swap is =
 exchange_writes byte _ swap is = none_some is
 
 -- its word lies in memory
-pub exchanged_from : (span : Span) (room : ℕ) (byte : ℕ → ℕ) (action : Action) (swap : Swap) → IsInPlace span room action →
-    exchange_by byte action ≡ Some swap → span.base ≤ swap.word
+pub exchanged_from : (span : Span) (room : ℕ) (byte : ℕ → ℕ) (action : Action) (swap : Swap) →
+    IsInPlace span room action → exchange_by byte action ≡ Some swap → span.base ≤ swap.word
 exchanged_from span room byte (actions.Amo op rd address source) swap place is =
     (subst (IsInPlace span room) (swap_action byte (actions.Amo op rd address source) swap is).is place).from_base
 exchanged_from span room byte (actions.StoreConditional rd address value) swap place is =
-    (subst (IsInPlace span room) (conditional_action byte (actions.StoreConditional rd address value) swap is).is place).from_base
+    (subst (IsInPlace span room) (conditional_action byte (actions.StoreConditional rd address value) swap is).is
+    place).from_base
 exchanged_from span room byte _ swap place is = none_some is
 
 -- a word whose line may be written there lies on a line that is there
@@ -106,4 +110,5 @@ pub written_there : (cache : Cached) (action : Action) (word : ℕ) → footprin
     lacking (permitted cache) (footprint action) ≡ None → is_resident cache.residency (line_number word) ≡ true
 written_there cache action word is none =
     writable_there cache (line_number word)
-    (is_permitted (permitted cache) (line_number word) Write (ap (λ access. lacking (permitted cache) access) (sym is) ∙ none))
+    (is_permitted (permitted cache) (line_number word) Write
+    (ap (λ access. lacking (permitted cache) access) (sym is) ∙ none))

@@ -41,8 +41,9 @@ goes Running is = refl
 goes (Exited code) is = absurd (cc)
 goes (Trapped cause pc) is = absurd (cc)
 
-waits_with : (state : ModelState) (h : ℕ) (blocked : Outcome) (ordered : Option Request) → ordered_of state h ≡ ordered →
-    is_still state h ≡ true → blocked_request state ordered ≡ Some blocked → Waits state h blocked
+waits_with : (state : ModelState) (h : ℕ) (blocked : Outcome) (ordered : Option Request) →
+    ordered_of state h ≡ ordered → is_still state h ≡ true → blocked_request state ordered ≡ Some blocked →
+    Waits state h blocked
 waits_with state h blocked None ordered still is = absurd (cc)
 waits_with state h blocked (Some request) ordered still is =
     let raised = nothing_for state h kinds.Order in
@@ -58,7 +59,8 @@ waits_with state h blocked (Some request) ordered still is =
       blocks = is;
     }
 
-pub waits_as : (state : ModelState) (h : ℕ) (blocked : Outcome) → waiting_of state h ≡ Some blocked → Waits state h blocked
+pub waits_as : (state : ModelState) (h : ℕ) (blocked : Outcome) → waiting_of state h ≡ Some blocked →
+    Waits state h blocked
 waits_as state h blocked is =
     let way = then_way (is_still state h) (blocked_request state (ordered_of state h)) blocked is in
     waits_with state h blocked (ordered_of state h) refl way.0 way.1
@@ -71,7 +73,9 @@ unfolding lines_from line_written_back
 leaves state event outcome turn none = record {
   turn = turn;
   lines = λ lines.
-      sym (ap (λ (turn : Turn). with_committed state.committed lines (back_by state event.hart.number turn.outcome event.kind)) turn
+      sym
+      (ap (λ (turn : Turn). with_committed state.committed lines
+      (back_by state event.hart.number turn.outcome event.kind)) turn
       ∙ ap (with_committed state.committed lines) none);
 }
 
@@ -80,7 +84,8 @@ nothing_leaves state event nothing =
     record { turn = rests state event nothing; lines = λ lines. resting_lines state event lines nothing }
 
 waits_for : (state : ModelState) (h : ℕ) (blocked : Outcome) → Waits state h blocked → has_request state h ≡ true
-waits_for state h blocked waits = or_right (is_some (raised_of state h)) (is_some (ordered_of state h)) (ap is_some waits.ordered)
+waits_for state h blocked waits =
+    or_right (is_some (raised_of state h)) (is_some (ordered_of state h)) (ap is_some waits.ordered)
 
 step_stalls : (state : ModelState) (hart : HartId) (blocked : Outcome) → Waits state hart.number blocked →
     Leaves state (record { kind = kinds.Step; hart = hart }) Stalled
@@ -89,8 +94,8 @@ step_stalls state hart blocked waits =
     leaves state (record { kind = kinds.Step; hart = hart }) Stalled
     (stalled_turn state hart.number waits.running (waits_for state hart.number blocked waits)) refl
 
-none_back : (state : ModelState) (h : ℕ) (obstacle : Obstacle) (blocked : Outcome) → blocked_by obstacle ≡ Some blocked →
-    back_as state h blocked ≡ None
+none_back : (state : ModelState) (h : ℕ) (obstacle : Obstacle) (blocked : Outcome) →
+    blocked_by obstacle ≡ Some blocked → back_as state h blocked ≡ None
 none_back state h Free blocked is = absurd (cc)
 none_back state h (Blocks why by) blocked is =
     let same : Blocked why (hart_id by) ≡ blocked = cc in ap (back_as state h) (sym same)
@@ -100,7 +105,8 @@ serve_is_blocked : (state : ModelState) (hart : HartId) (blocked : Outcome) → 
 unfolding next serve_turn
 serve_is_blocked state hart blocked waits =
     leaves state (record { kind = kinds.Serve; hart = hart }) blocked
-    (ap (serve_ordered state) waits.ordered ∙ past_blocked state waits.request (obstacle_to state waits.request) blocked waits.blocks)
+    (ap (serve_ordered state) waits.ordered ∙ past_blocked state waits.request (obstacle_to state waits.request)
+    blocked waits.blocks)
     (none_back state hart.number (obstacle_to state waits.request) blocked waits.blocks)
 
 -- in such a turn the step stalls, the serve is blocked, and the two others find nothing
@@ -110,8 +116,8 @@ pub record LeavesTurn (state : ModelState) (hart : HartId) (blocked : Outcome) :
   pub serve : Leaves state (record { kind = kinds.Serve; hart = hart }) blocked
   pub deliver : Leaves state (record { kind = kinds.Deliver; hart = hart }) Idle
 
-pub waits_throughout : (state : ModelState) (hart : HartId) (blocked : Outcome) → waiting_of state hart.number ≡ Some blocked →
-    LeavesTurn state hart blocked
+pub waits_throughout : (state : ModelState) (hart : HartId) (blocked : Outcome) →
+    waiting_of state hart.number ≡ Some blocked → LeavesTurn state hart blocked
 waits_throughout state hart blocked is =
     let waits = waits_as state hart.number blocked is in
     record {

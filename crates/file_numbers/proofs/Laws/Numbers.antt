@@ -1,5 +1,6 @@
 -- Four bytes and their number.
-use Rattle.std.proofs.Common.{◌≡◌, ℕ, ◌+◌, ◌*◌, ◌/◌, ◌%◌, ◌≤◌, ◌<◌, List, [], ◌∷◌, length, get_or, take, drop, refl, sym, ap, ◌∙◌, arith}
+use Rattle.std.proofs.Common.{◌≡◌, ℕ, ◌+◌, ◌*◌, ◌/◌, ◌%◌, ◌≤◌, ◌<◌, List, [], ◌∷◌, length, get_or, take, drop, refl}
+use Rattle.std.proofs.Common.{sym, ap, ◌∙◌, arith}
 use Rattle.std.proofs.lemmas.List.{get_or-drop, length-drop}
 use Rattle.byteorder.specs.Endian.{little_bytes, little_number}
 use Rattle.el_base.proofs.Laws.ListLaws.{four_in_front}
@@ -19,7 +20,8 @@ cells_of n a b c d is ha hb hc hd =
     rw (e0, e1, e2, e3) refl
 
 -- four bytes are those of their number
-pub four_bytes : (bytes : List ℕ) → IsBytes bytes → 4 ≤ length bytes → take 4 bytes ≡ little_bytes 4 (little_number 4 bytes)
+pub four_bytes : (bytes : List ℕ) → IsBytes bytes → 4 ≤ length bytes →
+    take 4 bytes ≡ little_bytes 4 (little_number 4 bytes)
 four_bytes bytes fits long =
     ap (take 4) (four_in_front bytes long)
     ∙ sym (cells_of (little_number 4 bytes) _ _ _ _ refl (fits 0) (fits 1) (fits 2) (fits 3))

@@ -9,13 +9,16 @@ use Rattle.el_model.proofs.Laws.Losing.{beaten_stands, lost_section}
 use Rattle.el_model.specs.Armed.{continued_hart, let_go_hart}
 use Rattle.el_model.specs.InSection.{buffered_hart, committed_hart}
 use Rattle.el_model.specs.Losses.{Standing, lost_in, restored, standing_of}
-use Rattle.el_model.specs.Plain.{after_candidate, after_touch, armed_count, arming_hart, began_hart, candidate_of, last_reserve, may_elide}
+use Rattle.el_model.specs.Plain.{after_candidate, after_touch, armed_count, arming_hart, began_hart, candidate_of}
+use Rattle.el_model.specs.Plain.{last_reserve, may_elide}
 use Rattle.el_model.specs.Plain.{missed_hart, ran_hart, watched, watching_from}
 use Rattle.el_model.specs.RollBack.{beaten, blamed, most_tries, out_of_section, rolled_back}
 use Rattle.el_model.specs.State.{Armed, Hart, ModelState, Section, hart_of, new_hart}
 use Rattle.el_model.specs.Upcoming.{Swap, Touch, is_store_conditional}
-use Rattle.hart_state.specs.Deeds.{armed_own, began_own, buffered_own, candidate_own, committed_own, elided_own, let_go_own, lost_own}
-use Rattle.hart_state.specs.Deeds.{own_acquire_pc, own_may_elide, ran_own, restored_own, rolled_back_own, standing_own, unreserved_own}
+use Rattle.hart_state.specs.Deeds.{armed_own, began_own, buffered_own, candidate_own, committed_own, elided_own}
+use Rattle.hart_state.specs.Deeds.{let_go_own, lost_own}
+use Rattle.hart_state.specs.Deeds.{own_acquire_pc, own_may_elide, ran_own, restored_own, rolled_back_own, standing_own}
+use Rattle.hart_state.specs.Deeds.{unreserved_own}
 use Rattle.hart_state.specs.Lending.{with_view}
 use Rattle.hart_state.specs.Own.{HasOwn, OwnState, committed_pc, new_own}
 use Rattle.pair_table.specs.Predictor.{settled, unwatched}
@@ -29,7 +32,8 @@ use Rattle.stamp.specs.Stamps.{Stamp}
 
 -- a hart before its first event
 pub new_is : (view : HartView) (lines owner sets : ℕ) → HasOwn (new_own view lines owner) (new_hart sets)
-new_is view lines owner sets = record { section = refl; armed = refl; last_lr = refl; predictor = refl; fallback = refl; tries = refl }
+new_is view lines owner sets =
+    record { section = refl; armed = refl; last_lr = refl; predictor = refl; fallback = refl; tries = refl }
 
 -- it elides where the definition's hart does
 pub may_elide_is : (mode : Mode) (own : OwnState) (hart : Hart) → HasOwn own hart →
@@ -60,7 +64,8 @@ unreserved_is own hart line has =
     }
 
 -- nor is a request that it raises
-pub missed_is : (own : OwnState) (hart : Hart) (h line : ℕ) (need : Need) → HasOwn own hart → HasOwn own (missed_hart h line need hart)
+pub missed_is : (own : OwnState) (hart : Hart) (h line : ℕ) (need : Need) → HasOwn own hart →
+    HasOwn own (missed_hart h line need hart)
 missed_is own hart h line need has =
     record {
       section = has.section;
@@ -88,7 +93,8 @@ pub ran_is : (state : ModelState) (h : ℕ) (touch : Option Touch) (own : OwnSta
     hart.last_lr ≡ (hart_of state h).last_lr → HasOwn (ran_own state h own) (ran_hart state h touch hart)
 ran_is state h touch own hart has same =
     subst (λ pc. HasOwn (ran_own state h own) (after_candidate pc (is_some hart.predictor.watch) swap seen_hart))
-    (ap (λ last. if is_store_conditional (next_insn state.committed h) then last else Some (view_of state.committed h).pc)
+    (ap (λ last. if is_store_conditional (next_insn state.committed h) then last
+    else Some (view_of state.committed h).pc)
     (has.last_lr ∙ same))
     (subst (λ had. HasOwn (ran_own state h own) (after_candidate (own_acquire_pc state h own) had swap seen_hart))
     (ap (λ p. is_some p.watch) has.predictor)
@@ -122,10 +128,12 @@ ran_is state h touch own hart has same =
     }
 
 -- a section that has begun at a swap, where none was armed
-pub began_is : (mode : Mode) (h : ℕ) (swap : Swap) (rd : ℕ) (own : OwnState) (hart : Hart) → HasOwn own hart → hart.armed ≡ None →
-    HasOwn (began_own swap.word swap.old swap.new rd own) (began_hart mode h swap hart)
+pub began_is : (mode : Mode) (h : ℕ) (swap : Swap) (rd : ℕ) (own : OwnState) (hart : Hart) → HasOwn own hart →
+    hart.armed ≡ None → HasOwn (began_own swap.word swap.old swap.new rd own) (began_hart mode h swap hart)
 began_is mode h swap rd own hart has unarmed = record {
-  section = ap (λ armed. Some (record { count = suc (armed_count armed); word = swap.word; old = swap.old; new = swap.new })) (sym unarmed);
+  section =
+      ap (λ armed. Some (record { count = suc (armed_count armed); word = swap.word; old = swap.old; new = swap.new }))
+      (sym unarmed);
   armed = refl;
   last_lr = has.last_lr;
   predictor = ap unwatched has.predictor;
@@ -149,9 +157,8 @@ arming_is word old rd own hart has none = record {
 one_more : (n : ℕ) → n + 1 ≡ suc n
 one_more n = omega arith
 
-elided_section : (reserved : Reserved) (armed : Option Armed) (swap : Swap) → armed ≡ Some reserved.armed → swap.word ≡ reserved.armed.word →
-    swap.old ≡ reserved.old →
-    Some (elided reserved.armed reserved.old swap.new)
+elided_section : (reserved : Reserved) (armed : Option Armed) (swap : Swap) → armed ≡ Some reserved.armed →
+    swap.word ≡ reserved.armed.word → swap.old ≡ reserved.old → Some (elided reserved.armed reserved.old swap.new)
     ≡ Some (record { count = suc (armed_count armed); word = swap.word; old = swap.old; new = swap.new })
 elided_section reserved armed swap is word old =
     (λ k. Some (record {
@@ -161,8 +168,8 @@ elided_section reserved armed swap is word old =
       new = swap.new;
     }))
 
-pub elided_is : (mode : Mode) (h : ℕ) (swap : Swap) (rd : ℕ) (reserved : Reserved) (own : OwnState) (hart : Hart) → HasOwn own hart →
-    own.section.armed ≡ Some reserved → swap.word ≡ reserved.armed.word → swap.old ≡ reserved.old →
+pub elided_is : (mode : Mode) (h : ℕ) (swap : Swap) (rd : ℕ) (reserved : Reserved) (own : OwnState) (hart : Hart) →
+    HasOwn own hart → own.section.armed ≡ Some reserved → swap.word ≡ reserved.armed.word → swap.old ≡ reserved.old →
     HasOwn (elided_own reserved swap.new rd own) (began_hart mode h swap hart)
 elided_is mode h swap rd reserved own hart has is word old = record {
   section =
@@ -178,12 +185,19 @@ elided_is mode h swap rd reserved own hart has is word old = record {
 pub let_go_is : (own : OwnState) (hart : Hart) → HasOwn own hart → hart.section ≡ None →
     HasOwn (let_go_own own) (let_go_hart (committed_pc own) hart)
 let_go_is own hart has none =
-    record { section = sym none; armed = refl; last_lr = refl; predictor = has.predictor; fallback = has.fallback; tries = has.tries }
+    record {
+      section = sym none;
+      armed = refl;
+      last_lr = refl;
+      predictor = has.predictor;
+      fallback = has.fallback;
+      tries = has.tries;
+    }
 
 -- an action that has run in a live section
-pub buffered_is : (section : Section) (touch : Option Touch) (now : SectionState) (own : OwnState) (hart : Hart) → HasOwn own hart →
-    now.live ≡ Some (record section { count = section.count + 1 }) → now.armed ≡ None → hart.armed ≡ None →
-    HasOwn (buffered_own now own) (buffered_hart section touch hart)
+pub buffered_is : (section : Section) (touch : Option Touch) (now : SectionState) (own : OwnState) (hart : Hart) →
+    HasOwn own hart → now.live ≡ Some (record section { count = section.count + 1 }) → now.armed ≡ None →
+    hart.armed ≡ None → HasOwn (buffered_own now own) (buffered_hart section touch hart)
 buffered_is section touch now own hart has live none unarmed = record {
   section = live;
   armed = ap (option_map (λ kept. kept.armed)) none ∙ sym unarmed;
@@ -195,8 +209,8 @@ buffered_is section touch now own hart has live none unarmed = record {
 
 -- and in an armed one
 pub continued_is : (reserved : Reserved) (now : SectionState) (own : OwnState) (hart : Hart) → HasOwn own hart →
-    now.armed ≡ Some (record reserved { armed = record reserved.armed { count = reserved.armed.count + 1 } }) → now.live ≡ None →
-    hart.section ≡ None → HasOwn (buffered_own now own) (continued_hart reserved.armed hart)
+    now.armed ≡ Some (record reserved { armed = record reserved.armed { count = reserved.armed.count + 1 } }) →
+    now.live ≡ None → hart.section ≡ None → HasOwn (buffered_own now own) (continued_hart reserved.armed hart)
 continued_is reserved now own hart has armed none dead = record {
   section = none ∙ sym dead;
   armed =
@@ -209,8 +223,8 @@ continued_is reserved now own hart has armed none dead = record {
 }
 
 -- a section that has committed
-pub committed_is : (now : SectionState) (own : OwnState) (hart : Hart) → HasOwn own hart → now.live ≡ None → now.armed ≡ None →
-    HasOwn (committed_own now own) (committed_hart (committed_pc own) hart)
+pub committed_is : (now : SectionState) (own : OwnState) (hart : Hart) → HasOwn own hart → now.live ≡ None →
+    now.armed ≡ None → HasOwn (committed_own now own) (committed_hart (committed_pc own) hart)
 committed_is now own hart has idle unarmed = record {
   section = idle;
   armed = ap (option_map (λ kept. kept.armed)) unarmed;
@@ -249,18 +263,21 @@ pub record IsUntaught (hart after : Hart) : Type 0 where
   pub last_lr : after.last_lr ≡ hart.last_lr
 
 nothing_learnt : (hart : Hart) (last : Bool) →
-    IsUntaught hart (if last then record hart { tries = 0; fallback = true } else record hart { tries = hart.tries + 1 })
+    IsUntaught hart
+    (if last then record hart { tries = 0; fallback = true } else record hart { tries = hart.tries + 1 })
 nothing_learnt hart true = record { predictor = refl; armed = refl; last_lr = refl }
 nothing_learnt hart false = record { predictor = refl; armed = refl; last_lr = refl }
 
-trust_stays : (mode : Mode) (winner : Option Stamp) (hart : Hart) → IsUntaught (out_of_section hart) (beaten mode winner hart)
+trust_stays : (mode : Mode) (winner : Option Stamp) (hart : Hart) →
+    IsUntaught (out_of_section hart) (beaten mode winner hart)
 trust_stays Tlr winner hart = record { predictor = refl; armed = refl; last_lr = refl }
 trust_stays Sle winner hart = nothing_learnt (out_of_section hart) (hart.tries + 1 == most_tries)
 trust_stays Plain winner hart = nothing_learnt (out_of_section hart) (hart.tries + 1 == most_tries)
 
 -- a section that was lost, to a hart of which an event says what is left
-pub lost_is : (mode : Mode) (own : OwnState) (hart after : Hart) → HasOwn own hart → standing_of after ≡ lost_in mode (standing_of hart) →
-    after.predictor ≡ hart.predictor → after.armed ≡ None → after.last_lr ≡ hart.last_lr → HasOwn (lost_own mode own) after
+pub lost_is : (mode : Mode) (own : OwnState) (hart after : Hart) → HasOwn own hart →
+    standing_of after ≡ lost_in mode (standing_of hart) → after.predictor ≡ hart.predictor → after.armed ≡ None →
+    after.last_lr ≡ hart.last_lr → HasOwn (lost_own mode own) after
 lost_is mode own hart after has standing predictor unarmed last = record {
   section = sym (lost_section mode (standing_own own)) ∙ ap (λ s. s.section) left;
   armed = sym unarmed;
@@ -278,10 +295,12 @@ pub beaten_is : (mode : Mode) (winner : Option Stamp) (own : OwnState) (hart : H
     HasOwn (lost_own mode own) (beaten mode winner hart)
 beaten_is mode winner own hart has =
     let same = trust_stays mode winner hart in
-    lost_is mode own hart (beaten mode winner hart) has (beaten_stands mode winner hart) same.predictor same.armed same.last_lr
+    lost_is mode own hart (beaten mode winner hart) has (beaten_stands mode winner hart) same.predictor
+    same.armed same.last_lr
 
 -- a hart that an event leaves as it stood
-pub stays_is : (own : OwnState) (hart after : Hart) → HasOwn own hart → standing_of after ≡ standing_of hart → IsUntaught hart after
+pub stays_is : (own : OwnState) (hart after : Hart) → HasOwn own hart → standing_of after ≡ standing_of hart →
+    IsUntaught hart after
     → HasOwn own after
 stays_is own hart after has standing same = record {
   section = has.section ∙ sym (ap (λ s. s.section) standing);

@@ -1,5 +1,6 @@
 -- Laws of what one owner's calls leave to the others, for who keeps slots of a pool.
-use Rattle.std.proofs.Common.{◌≡◌, ◌≢◌, ℕ, ◌<◌, ◌≤◌, nat_lt, true, List, length, slice_index, refl, ap, sym, ◌∙◌, inl, inr, arith}
+use Rattle.std.proofs.Common.{◌≡◌, ◌≢◌, ℕ, ◌<◌, ◌≤◌, nat_lt, true, List, length, slice_index, refl, ap, sym, ◌∙◌, inl}
+use Rattle.std.proofs.Common.{inr, arith}
 use Rattle.std.proofs.lemmas.Bool.{cases_eq, cases_lt}
 use Rattle.std.proofs.lemmas.Bool.Decides.{nat_tests}
 use Rattle.std.proofs.lemmas.List.{get_or_past}
@@ -12,12 +13,14 @@ use Rattle.line_pool.proofs.Laws.{has-out, kept-out, kept-owner, owners_apart}
 
 -- a call that does nothing, and one after another
 pub leaves-same : (owner : ℕ) (pool : Pooled) → LeavesOthers owner pool pool
-leaves-same owner pool = record { outs = λ s apart. refl; counts = λ o apart. refl; bytes = λ s apart has. refl; quotas = refl }
+leaves-same owner pool =
+    record { outs = λ s apart. refl; counts = λ o apart. refl; bytes = λ s apart has. refl; quotas = refl }
 
 pub same_has : (old new : Pooled) (slot : Slot) → quotas_of new ≡ quotas_of old → has_slot new slot ≡ has_slot old slot
 same_has old new slot same = ap (λ quotas. nat_lt slot.place (slice_index quotas slot.owner)) same
 
-pub leaves-then : (owner : ℕ) (old between new : Pooled) → LeavesOthers owner old between → LeavesOthers owner between new
+pub leaves-then : (owner : ℕ) (old between new : Pooled) → LeavesOthers owner old between →
+    LeavesOthers owner between new
     → LeavesOthers owner old new
 leaves-then owner old between new first second = record {
   outs = λ s apart. second.outs s apart ∙ first.outs s apart;
@@ -27,7 +30,8 @@ leaves-then owner old between new first second = record {
 }
 
 -- what each call of a pool leaves
-pub leaves-taken : (owner : ℕ) (old new : Pooled) (slot : Slot) → IsTaken old new owner slot → LeavesOthers owner old new
+pub leaves-taken : (owner : ℕ) (old new : Pooled) (slot : Slot) → IsTaken old new owner slot →
+    LeavesOthers owner old new
 leaves-taken owner old new slot taken = record {
   outs = λ s apart. taken.others s (owners_apart slot s (λ same. apart (same ∙ taken.owned)));
   counts = taken.other_counts;
@@ -43,7 +47,8 @@ leaves-given old new slot given = record {
   quotas = given.quotas;
 }
 
-pub leaves-written : (old new : Pooled) (slot : Slot) (bytes : List ℕ) → IsWritten old new slot bytes → LeavesOthers (owner_of slot) old new
+pub leaves-written : (old new : Pooled) (slot : Slot) (bytes : List ℕ) → IsWritten old new slot bytes →
+    LeavesOthers (owner_of slot) old new
 leaves-written old new slot bytes written = record {
   outs = λ s apart. written.outs s;
   counts = λ o apart. written.counts o;
@@ -63,13 +68,15 @@ keeps-left owner other old new slots leaves apart keeps = record {
   all = keeps.all ∙ sym (leaves.counts other apart);
 }
 
-pub bytes-left : (owner other : ℕ) (old new : Pooled) (slots : List Slot) (slot : Slot) → LeavesOthers owner old new → other ≢ owner
+pub bytes-left : (owner other : ℕ) (old new : Pooled) (slots : List Slot) (slot : Slot) →
+    LeavesOthers owner old new → other ≢ owner
     → Keeps old other slots → 1 ≤ times_among slots slot → bytes_of new slot ≡ bytes_of old slot
 bytes-left owner other old new slots slot leaves apart keeps among =
     leaves.bytes slot (λ same. apart (sym (kept-owner old other slots slot keeps among) ∙ same))
     (has-out old slot (kept-out old other slots slot keeps among))
 
-pub quota-left : (owner other : ℕ) (old new : Pooled) → LeavesOthers owner old new → quota_of new other ≡ quota_of old other
+pub quota-left : (owner other : ℕ) (old new : Pooled) → LeavesOthers owner old new →
+    quota_of new other ≡ quota_of old other
 quota-left owner other old new leaves = ap (λ quotas. slice_index quotas other) leaves.quotas
 
 -- an owner with a quota is one of the pool's, and has no more out than it

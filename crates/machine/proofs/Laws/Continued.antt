@@ -1,5 +1,6 @@
 -- stories that go on
-use Rattle.std.proofs.Common.{◌≡◌, ◌-◌, length, length-append, arith, List, [], ◌∷◌, ◌++◌, sym, ◌∙◌, ap, append-nil, append_assoc}
+use Rattle.std.proofs.Common.{◌≡◌, ◌-◌, length, length-append, arith, List, [], ◌∷◌, ◌++◌, sym, ◌∙◌, ap, append-nil}
+use Rattle.std.proofs.Common.{append_assoc}
 use Rattle.std.proofs.Common.{ℕ, ◌<◌, ◌≤◌, take, false, inl, inr, ◌+◌, get_or}
 use Rattle.std.proofs.lemmas.List.{length-take-le, map-append, take-append-le, take_more}
 use Rattle.std.proofs.Math.Seq.{take-length}
@@ -7,13 +8,15 @@ use Rattle.std.proofs.lemmas.Bool.{cases_order}
 use Rattle.std.proofs.Math.Nat.{le_of_lt}
 use Rattle.chronicle.specs.Chronicle.{events}
 use Rattle.el_base.specs.declared.events.Event.{Event}
-use Rattle.el_model.proofs.Laws.Folds.{entries_from-append, events-entries_from, length-entries_from, state_after-append}
+use Rattle.el_model.proofs.Laws.Folds.{entries_from-append, events-entries_from, length-entries_from}
+use Rattle.el_model.proofs.Laws.Folds.{state_after-append}
 use Rattle.el_model.specs.Next.{after, entries_from, is_over, state_after}
 use Rattle.el_model.specs.State.{begin}
 use Rattle.machine.specs.Story.{Story, continued, left_of, state_of}
 
 -- the state after further events
-pub state_of_continued : (story : Story) (made : List Event) → state_of (continued story made) ≡ state_after (state_of story) made
+pub state_of_continued : (story : Story) (made : List Event) →
+    state_of (continued story made) ≡ state_after (state_of story) made
 state_of_continued story made =
     ap (λ list. after story.program story.config list)
     (map-append _ story.entries (entries_from (state_of story) made)
@@ -25,17 +28,24 @@ pub nothing_more : (story : Story) → continued story [] ≡ story
 nothing_more story = ap (λ list. record story { entries = list }) (append-nil story.entries)
 
 -- the steps that are left then
-pub left_of_continued : (story : Story) (made : List Event) → left_of (continued story made) ≡ left_of story - length made
+pub left_of_continued : (story : Story) (made : List Event) →
+    left_of (continued story made) ≡ left_of story - length made
 left_of_continued story made =
-    omega (arith, length-append story.entries (entries_from (state_of story) made), length-entries_from (state_of story) made)
+    omega (
+      arith,
+      length-append story.entries (entries_from (state_of story) made),
+      length-entries_from (state_of story) made,
+    )
 
 -- going on twice
 pub continued_twice : (story : Story) (first second : List Event) →
     continued (continued story first) second ≡ continued story (first ++ second)
 continued_twice story first second =
     ap (λ list. record story { entries = list })
-    (ap (λ state. (story.entries ++ entries_from (state_of story) first) ++ entries_from state second) (state_of_continued story first)
-    ∙ append_assoc story.entries (entries_from (state_of story) first) (entries_from (state_after (state_of story) first) second)
+    (ap (λ state. (story.entries ++ entries_from (state_of story) first) ++ entries_from state second)
+    (state_of_continued story first)
+    ∙ append_assoc story.entries (entries_from (state_of story) first)
+    (entries_from (state_after (state_of story) first) second)
     ∙ ap (λ list. story.entries ++ list) (sym (entries_from-append (state_of story) first second)))
 
 -- one event more
@@ -48,7 +58,8 @@ continued_more before now later made event reached more =
 pub going_more : (before now : Story) (made : List Event) (event : Event) → now ≡ continued before made →
     is_over (state_of now) ≡ false →
     ((i : ℕ) → i < length made → is_over (state_after (state_of before) (take i made)) ≡ false) →
-    (i : ℕ) → i < length (made ++ event ∷ []) → is_over (state_after (state_of before) (take i (made ++ event ∷ []))) ≡ false
+    (i : ℕ) → i < length (made ++ event ∷ []) →
+    is_over (state_after (state_of before) (take i (made ++ event ∷ []))) ≡ false
 going_more before now made event story runs going i within =
     let up_to : i ≤ length made = omega (arith, length-append made (event ∷ [])) in
     let part : take i (made ++ event ∷ []) ≡ take i made = take-append-le i made (event ∷ []) up_to in

@@ -1,6 +1,7 @@
 -- each outcome can be recorded: the harts that it names are the machine's, and a commit is as long as a section may be
 use Rattle.std.proofs.Common.{◌≡◌, ◌∙◌, ◌<◌, ◌≤◌, ◌+◌, ◌==◌, ◌&&◌, ℕ, suc, Bool, true, false, List, [], ◌∷◌, ◌++◌}
-use Rattle.std.proofs.Common.{◌⊎◌, inl, inr, Option, None, Some, length, not, refl, ap, sym, subst, arith, if◌then◌else◌}
+use Rattle.std.proofs.Common.{◌⊎◌, inl, inr, Option, None, Some, length, not, refl, ap, sym, subst, arith}
+use Rattle.std.proofs.Common.{if◌then◌else◌}
 use Rattle.std.specs.Prelude.{All, IfSome}
 use Rattle.std.proofs.lemmas.Bool.{cases_lt}
 use Rattle.std.proofs.lemmas.Bool.Decides.{nat_tests}
@@ -35,21 +36,26 @@ use Rattle.el_model.proofs.Laws.FromStart.{kept_after, next_config}
 use Rattle.el_model.proofs.Laws.Harts.{hart_of-past}
 use Rattle.el_model.proofs.Laws.Keeps.{keeps_before_face, keeps_served}
 use Rattle.el_model.proofs.Laws.Tests.{by_test}
-use Rattle.el_model.specs.Conflicts.{conflicts, first_such, holder_of, is_write, retainer_of, stamp_in, told_winner, wins_over}
-use Rattle.el_model.specs.Deed.{Arms, Begins, Buffers, Commits, Continues, Deed, DoesWhere, Elides, LetsGo, Misses, Rests, RollsBack, Runs, Waits}
+use Rattle.el_model.specs.Conflicts.{conflicts, first_such, holder_of, is_write, retainer_of, stamp_in, told_winner}
+use Rattle.el_model.specs.Conflicts.{wins_over}
+use Rattle.el_model.specs.Deed.{Arms, Begins, Buffers, Commits, Continues, Deed, DoesWhere, Elides, LetsGo, Misses}
+use Rattle.el_model.specs.Deed.{Rests, RollsBack, Runs, Waits}
 use Rattle.el_model.specs.Deed.{outcome_of}
 use Rattle.el_model.specs.Deliver.{deliver_next, deliver_turn, loses_to_origin, losers_by, message_losers, nobody}
 use Rattle.el_model.specs.Deliver.{one_lost, taken}
 use Rattle.el_model.specs.Armed.{freed_by, freed_count, let_go}
-use Rattle.el_model.specs.Face.{LosesTo, Unmet, deferring_fate, face_losers, faced, fate_of, freed_if, met_losers, met_losers_if}
+use Rattle.el_model.specs.Face.{LosesTo, Unmet, deferring_fate, face_losers, faced, fate_of, freed_if, met_losers}
+use Rattle.el_model.specs.Face.{met_losers_if}
 use Rattle.el_model.specs.Face.{told_fate, winner_in}
 use Rattle.el_model.specs.Next.{after, kind_turn, next, outcomes_from}
-use Rattle.el_model.specs.Order.{Alone, Behind as BehindOthers, InFront, Place, before_face, freed_at, losers_at, order_raised}
+use Rattle.el_model.specs.Order.{Alone, Behind as BehindOthers, InFront, Place, before_face, freed_at, losers_at}
+use Rattle.el_model.specs.Order.{order_raised}
 use Rattle.el_model.specs.Plain.{armed_count}
 use Rattle.el_model.specs.Order.{order_turn, place_for, placed}
 use Rattle.el_model.specs.Serve.{Blocks, Free, Obstacle, blocks_if, obstacle_to, other_head, serve_freed, serve_losers}
 use Rattle.el_model.specs.Serve.{serve_ordered, serve_past, serve_turn, served}
-use Rattle.el_model.specs.State.{Armed, Hart, ModelState, Section, armed_of, begin, count_up, hart_of, head_of, new_hart, numbers_of}
+use Rattle.el_model.specs.State.{Armed, Hart, ModelState, Section, armed_of, begin, count_up, hart_of, head_of}
+use Rattle.el_model.specs.State.{new_hart, numbers_of}
 use Rattle.el_model.specs.State.{ordered_of, ordered_on, raised_of, section_of}
 use Rattle.elf_image.specs.Program.{Program}
 use Rattle.machine.specs.Recording.{AreAmong, AreFreedAmong, CanBeRecorded, OutcomesCanBeRecorded}
@@ -202,7 +208,8 @@ obstacle_below state request once below =
     (first_below _ limit 0 state.harts (omega arith)) tt))
 
 -- who is let go is armed, and so a hart of the machine
-none_past : (state : ModelState) (head : Request) (h : ℕ) → length state.harts ≤ h → freed_count head h (hart_of state h) ≡ 0
+none_past : (state : ModelState) (head : Request) (h : ℕ) → length state.harts ≤ h →
+    freed_count head h (hart_of state h) ≡ 0
 none_past state head h past =
     let hart = new_hart 0 in
     ap (λ k. freed_count head h k) (hart_of-past state h past)
@@ -225,10 +232,12 @@ freed_among state head h past = by (cases_lt h 8)
 nobody_freed : (limit : ℕ) → AreFreedAmong limit no_one_freed
 nobody_freed limit h past = none_in_no_one h
 
-as_many_freed : (old new : ModelState) (head : Request) → length new.harts ≡ length old.harts → AreFreedAmong (length old.harts) (freed_by new head)
+as_many_freed : (old new : ModelState) (head : Request) → length new.harts ≡ length old.harts →
+    AreFreedAmong (length old.harts) (freed_by new head)
 as_many_freed old new head same = subst (λ n. AreFreedAmong n (freed_by new head)) same (freed_among new head)
 
-order_frees : (state : ModelState) (request : Request) (place : Place) → AreFreedAmong (length state.harts) (freed_at state request place)
+order_frees : (state : ModelState) (request : Request) (place : Place) →
+    AreFreedAmong (length state.harts) (freed_at state request place)
 order_frees state request InFront =
     as_many_freed state (before_face state request InFront) request (keeps_before_face state request InFront).count
 order_frees state request BehindOthers = nobody_freed (length state.harts)
@@ -284,13 +293,17 @@ module _ (state : ModelState) (few : length state.harts ≤ 8) (bounded : Bounde
     order_recorded h None is below lost = tt
     order_recorded h (Some request) is below lost =
         let exists = raised_exists state h request bounded.sound is in
-        let place = place_for state request in
-        (among _ (losers_at state request place) lost (order_winners state request place _ exists below), order_frees state request place)
+        let place = place_for state request in (
+          among _ (losers_at state request place) lost (order_winners state request place _ exists below),
+          order_frees state request place,
+        )
 
     past_recorded : (request : Request) (obstacle : Obstacle) → BlocksBelow (length state.harts) obstacle →
         LosersExist (serve_past state request obstacle).outcome → Recorded (serve_past state request obstacle).outcome
-    past_recorded request Free exists lost =
-        (among _ (serve_losers state request) lost (serve_winners state request _ once bounded.exists), serve_frees state request)
+    past_recorded request Free exists lost = (
+      among _ (serve_losers state request) lost (serve_winners state request _ once bounded.exists),
+      serve_frees state request,
+    )
     past_recorded request (Blocks why by) exists lost =
         rw (hart_id-number by (omega (arith, exists, few))) exists
 
@@ -359,7 +372,8 @@ module _ (program : Program) (config : Config) (same : program.harts ≡ config.
   armed_short : (made : List Event) (h : ℕ) (armed : Armed) → armed_of (after program config made) h ≡ Some armed →
       IsShortArmed (after program config made).config.long armed
   armed_short made h armed is =
-      subst (λ c. IsShortArmed c.long armed) (sym (config_stays made)) (armed_sections_are_short program config made range h armed is)
+      subst (λ c. IsShortArmed c.long armed) (sym (config_stays made))
+      (armed_sections_are_short program config made range h armed is)
 
   sections_short : (made : List Event) (h : ℕ) (section : Section) →
       section_of (after program config made) h ≡ Some section →
@@ -374,7 +388,8 @@ module _ (program : Program) (config : Config) (same : program.harts ≡ config.
       let few : length state.harts ≤ 8 = rw (as_configured made) (harts_in_range config range) in
       subst (λ c. CanBeRecorded c.harts c.long (next state event).outcome) (config_stays made)
       (subst (λ count. CanBeRecorded count state.config.long (next state event).outcome) (bounds made).count
-      (next_recorded state few (bounds made) (one_ordered_request_each program config made) (sections_short made) (armed_short made) event
+      (next_recorded state few (bounds made) (one_ordered_request_each program config made) (sections_short made)
+      (armed_short made) event
       (next_below made event) (loser_exists made event)))
 
   from_here : (made events : List Event) → All Recordable (outcomes_from (after program config made) events)

@@ -1,10 +1,12 @@
 -- No message is in a mailbox twice, so that 16 places are enough.
-use Rattle.std.proofs.Common.{◌≡◌, ℕ, ◌+◌, ◌-◌, ◌<◌, ◌≤◌, ◌==◌, nat_lt, Bool, true, false, cond, List, [], ◌∷◌, ◌++◌, length, map, refl, ap, sym, ◌∙◌, arith}
+use Rattle.std.proofs.Common.{◌≡◌, ℕ, ◌+◌, ◌-◌, ◌<◌, ◌≤◌, ◌==◌, nat_lt, Bool, true, false, cond, List, [], ◌∷◌, ◌++◌}
+use Rattle.std.proofs.Common.{length, map, refl, ap, sym, ◌∙◌, arith}
 use Rattle.std.specs.List.{count_by, filter}
 use Rattle.std.proofs.lemmas.Bool.Decides.{nat_tests}
 use Rattle.std.proofs.lemmas.List.Sums.{sum_by-cons, sum_by_push}
 use Rattle.el_base.proofs.Laws.ListLaws.{length_by_codes}
-use Rattle.mail.specs.Mailbox.{Message, Marker, Probe, numbered, same_message, has_message, posted, without_oldest, IsOnceEach}
+use Rattle.mail.specs.Mailbox.{Message, Marker, Probe, numbered, same_message, has_message, posted, without_oldest}
+use Rattle.mail.specs.Mailbox.{IsOnceEach}
 use Rattle.mail.specs.declared.message.Message as messages
 use Rattle.mail.specs.declared.message.Message.TheVariants as declared
 
@@ -28,7 +30,8 @@ same_as_itself (Marker a) = grind (arith, nat_tests)
 same_as_itself (Probe a) = grind (arith, nat_tests)
 
 -- a message that is not in the box is counted as none
-pub count_of_absent : (box : List Message) (message : Message) → has_message box message ≡ false → count_of box message ≡ 0
+pub count_of_absent : (box : List Message) (message : Message) → has_message box message ≡ false →
+    count_of box message ≡ 0
 count_of_absent [] message none = refl
 count_of_absent (first ∷ box) message none =
     rw count_of_cons (step (same_message first message) none (count_of_absent box message))
@@ -68,7 +71,8 @@ count_of_filter keeps (first ∷ box) message =
   where
     step : (kept : Bool) → count_of (filter keeps box) message ≤ count_of box message
         → count_of (cond kept (first ∷ filter keeps box) (filter keeps box)) message ≤ count_of (first ∷ box) message
-    step true rest = omega (arith, rest, count_of_cons first box message, count_of_cons first (filter keeps box) message)
+    step true rest =
+        omega (arith, rest, count_of_cons first box message, count_of_cons first (filter keeps box) message)
     step false rest = omega (arith, rest, count_of_cons first box message)
 
 pub once_each_filter : (keeps : Message → Bool) (box : List Message) → IsOnceEach box → IsOnceEach (filter keeps box)
@@ -98,13 +102,15 @@ code_counts : (message : messages.Message) (code : ℕ)
 code_counts (declared.Marker sender) code = of_marker (nat_lt code 8) refl
   where
     of_marker : (low : Bool) → nat_lt code 8 ≡ low
-        → cond (sender.number == code) 1 0 ≤ cond (same_message (Marker sender.number) (cond low (Marker code) (Probe (code - 8)))) 1 0
+        → cond (sender.number == code) 1 0
+        ≤ cond (same_message (Marker sender.number) (cond low (Marker code) (Probe (code - 8)))) 1 0
     of_marker true is = omega arith
     of_marker false is = grind (arith, nat_tests, sender.small)
 code_counts (declared.Probe origin) code = of_probe (nat_lt code 8) refl
   where
     of_probe : (low : Bool) → nat_lt code 8 ≡ low
-        → cond (8 + origin.number == code) 1 0 ≤ cond (same_message (Probe origin.number) (cond low (Marker code) (Probe (code - 8)))) 1 0
+        → cond (8 + origin.number == code) 1 0
+        ≤ cond (same_message (Probe origin.number) (cond low (Marker code) (Probe (code - 8)))) 1 0
     of_probe true is = grind (arith, nat_tests)
     of_probe false is = grind (arith, nat_tests)
 

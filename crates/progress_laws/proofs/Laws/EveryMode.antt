@@ -21,4 +21,5 @@ no_state_is_stuck program config events same range =
     by Plain is few = stampless_not_stuck program config events (ap has_stamps is) few
     by Sle is few = stampless_not_stuck program config events (ap has_stamps is) few
     by Tlr is few =
-        removal_not_stuck (after program config events) (facts_hold_throughout program config events is) (always_orderly program config events) few
+        removal_not_stuck (after program config events) (facts_hold_throughout program config events is)
+        (always_orderly program config events) few

@@ -1,4 +1,5 @@
--- how a state gets on: by a hart that waits for nothing, by a request or a message, or by the head of a line that no section retains
+-- how a state gets on: by a hart that waits for nothing, by a request or a message, or by the head of
+-- a line that no section retains
 use Rattle.std.proofs.Common.{◌≡◌, ◌∙◌, ℕ, ◌<◌, ◌==◌, true, false, ◌&&◌, not, ◌≢◌}
 use Rattle.std.proofs.Common.{List, ◌∷◌, Option, None, Some, is_some, length, refl, ap, sym, inl, inr, ◌⊎◌}
 use Rattle.bus_order.specs.Order.{IsOneEach, Request}
@@ -12,12 +13,15 @@ use Rattle.el_base.proofs.Laws.Cases.{some_none, true_false}
 use Rattle.el_base.proofs.Laws.Tests.{own_test, second_of_both}
 use Rattle.elf_image.specs.Program.{Program}
 use Rattle.el_model.specs.Conflicts.{holder_of, retainer_of, retains}
-use Rattle.el_model.specs.Deed.{Arms, Begins, Buffers, Commits, Continues, Deed, DoesWhere, Elides, LetsGo, Misses, Rests, RollsBack, Runs, Waits, outcome_of}
+use Rattle.el_model.specs.Deed.{Arms, Begins, Buffers, Commits, Continues, Deed, DoesWhere, Elides, LetsGo, Misses}
+use Rattle.el_model.specs.Deed.{Rests, RollsBack, Runs, Waits, outcome_of}
 use Rattle.el_model.specs.Deliver.{deliver_next, deliver_turn}
 use Rattle.el_model.specs.Next.{after, kind_turn, status_turn}
 use Rattle.el_model.specs.Order.{order_raised, order_turn}
-use Rattle.el_model.specs.Serve.{Free, Obstacle, blocks_if, obstacle_to, other_head, serve_ordered, serve_past, serve_turn}
-use Rattle.el_model.specs.State.{ModelState, begin, has_request, hart_of, head_of, is_held, is_live, numbers_of, ordered_of, raised_of}
+use Rattle.el_model.specs.Serve.{Free, Obstacle, blocks_if, obstacle_to, other_head, serve_ordered, serve_past}
+use Rattle.el_model.specs.Serve.{serve_turn}
+use Rattle.el_model.specs.State.{ModelState, begin, has_request, hart_of, head_of, is_held, is_live, numbers_of}
+use Rattle.el_model.specs.State.{ordered_of, raised_of}
 use Rattle.el_model.proofs.Laws.Deeds.{step_deed}
 use Rattle.el_model.proofs.Laws.FromStart.{kept_after}
 use Rattle.el_model.proofs.Laws.Conflicts.{first_passes, none_first}
@@ -40,7 +44,8 @@ pub record GetsOn (state : ModelState) : Type 0 where
   pub exists : hart < length state.harts
   pub progress : is_progress (kind_turn state hart kind).outcome ≡ true
 
--- what a state is known to be, in every mode: each hart waits for one thing, has one ordered request, and is one of the machine's
+-- what a state is known to be, in every mode: each hart waits for one thing, has one ordered
+-- request, and is one of the machine's
 pub record Orderly (state : ModelState) : Type 0 where
   pub sound : Sound state
   pub once : IsOneEach state.order
@@ -64,18 +69,20 @@ pub raised_runs : (state : ModelState) (h : ℕ) (request : Request) → Sound s
 raised_runs state h request sound is =
     running_status (status_of state.committed h) (λ ended. some_none (sym is ∙ ((sound h).stopped ended).not_raised))
 
-pub live_runs : (state : ModelState) (h : ℕ) → Sound state → is_live state h ≡ true → status_of state.committed h ≡ Running
+pub live_runs : (state : ModelState) (h : ℕ) → Sound state → is_live state h ≡ true →
+    status_of state.committed h ≡ Running
 live_runs state h sound live =
     running_status (status_of state.committed h)
     (λ ended. true_false (sym live ∙ ap is_some ((sound h).stopped ended).no_section))
 
-pub held_runs : (state : ModelState) (h line : ℕ) → Sound state → (hart_of state h).held_line ≡ Some line → status_of state.committed h ≡ Running
+pub held_runs : (state : ModelState) (h line : ℕ) → Sound state → (hart_of state h).held_line ≡ Some line →
+    status_of state.committed h ≡ Running
 held_runs state h line sound is =
     running_status (status_of state.committed h) (λ ended. some_none (sym is ∙ ((sound h).stopped ended).not_held))
 
 -- a hart that runs and has no request steps
-pub deed_gets_on : (state : ModelState) (h : ℕ) (deed : Deed) → DoesWhere state h deed → status_of state.committed h ≡ Running →
-    has_request state h ≡ false → is_progress (outcome_of deed) ≡ true
+pub deed_gets_on : (state : ModelState) (h : ℕ) (deed : Deed) → DoesWhere state h deed →
+    status_of state.committed h ≡ Running → has_request state h ≡ false → is_progress (outcome_of deed) ≡ true
 deed_gets_on state h Rests rests running free = absurd (rests running)
 deed_gets_on state h Waits waits running free = true_false (sym waits.waits ∙ free)
 deed_gets_on state h (Misses line need) does running free = refl
@@ -89,8 +96,8 @@ deed_gets_on state h (Elides armed swap) does running free = refl
 deed_gets_on state h (Continues armed) does running free = refl
 deed_gets_on state h (LetsGo armed) does running free = refl
 
-pub free_gets_on : (state : ModelState) (h : ℕ) → AsMany state → status_of state.committed h ≡ Running → has_request state h ≡ false →
-    GetsOn state
+pub free_gets_on : (state : ModelState) (h : ℕ) → AsMany state → status_of state.committed h ≡ Running →
+    has_request state h ≡ false → GetsOn state
 free_gets_on state h same running free =
     let step = step_deed state h in
     record {
@@ -98,11 +105,13 @@ free_gets_on state h same running free =
       kind = Step;
       exists = runs_exists state h same running;
       progress =
-          ap (λ turn. is_progress turn.outcome) step.turn_is ∙ deed_gets_on state h step.deed step.where_it running free;
+          ap (λ turn. is_progress turn.outcome) step.turn_is ∙ deed_gets_on state h step.deed
+          step.where_it running free;
     }
 
 -- a raised request is ordered, and a message is delivered
-pub raised_gets_on : (state : ModelState) (h : ℕ) (request : Request) → h < length state.harts → raised_of state h ≡ Some request → GetsOn state
+pub raised_gets_on : (state : ModelState) (h : ℕ) (request : Request) → h < length state.harts →
+    raised_of state h ≡ Some request → GetsOn state
 unfolding order_turn
 raised_gets_on state h request exists raised = record {
   hart = h;
@@ -126,23 +135,27 @@ line_held : (held : Option ℕ) (line : ℕ) → is_held held line ≡ true → 
 line_held None line is = absurd (cc)
 line_held (Some l) line is = (l, refl)
 
-pub holds_only : (state : ModelState) (h line : ℕ) → Sound state → (hart_of state h).held_line ≡ Some line → has_request state h ≡ false
+pub holds_only : (state : ModelState) (h line : ℕ) → Sound state → (hart_of state h).held_line ≡ Some line →
+    has_request state h ≡ false
 holds_only state h line sound is = only (sound h).only_holds
   where
-    only : ((hart_of state h).held_line ≡ None) ⊎ OnlyHolds (ordered_of state h) (hart_of state h).section (raised_of state h) →
-        has_request state h ≡ false
+    only : ((hart_of state h).held_line ≡ None) ⊎ OnlyHolds (ordered_of state h) (hart_of state h).section
+        (raised_of state h) → has_request state h ≡ false
     only (inl none) = some_none (sym is ∙ none)
     only (inr alone) = rw (alone.not_raised, alone.not_ordered) refl
 
-holder_gets_on : (state : ModelState) (h k line : ℕ) → Sound state → AsMany state → holder_of state h line ≡ Some k → GetsOn state
+holder_gets_on : (state : ModelState) (h k line : ℕ) → Sound state → AsMany state →
+    holder_of state h line ≡ Some k → GetsOn state
 holder_gets_on state h k line sound same is =
-    let test = first_passes (λ other. not (other == h) && is_held (hart_of state other).held_line line) (numbers_of state) k is in
+    let test =
+    first_passes (λ other. not (other == h) && is_held (hart_of state other).held_line line)
+    (numbers_of state) k is in
     let held = line_held (hart_of state k).held_line line (second_of_both _ _ test) in
     free_gets_on state k same (held_runs state k held.0 sound held.1) (holds_only state k held.0 sound held.1)
 
 -- the head of a line that no section retains is served, unless a hart holds the line, which then steps
-served_gets_on : (state : ModelState) (h : ℕ) (request : Request) → h < length state.harts → ordered_of state h ≡ Some request →
-    obstacle_to state request ≡ Free → GetsOn state
+served_gets_on : (state : ModelState) (h : ℕ) (request : Request) → h < length state.harts →
+    ordered_of state h ≡ Some request → obstacle_to state request ≡ Free → GetsOn state
 unfolding serve_turn
 served_gets_on state h request exists is free = record {
   hart = h;
@@ -177,8 +190,8 @@ head_gets_on state head orderly ordered first retained = by (holder_of state hea
         ∙ ap (λ section. blocks_if Retained section locked) retained
         ∙ ap (λ holder. blocks_if Locked holder Free) is)
 
-pub unretained_gets_on : (state : ModelState) (h : ℕ) (request : Request) → Orderly state → ordered_of state h ≡ Some request →
-    retainer_of state request.line ≡ None → GetsOn state
+pub unretained_gets_on : (state : ModelState) (h : ℕ) (request : Request) → Orderly state →
+    ordered_of state h ≡ Some request → retainer_of state request.line ≡ None → GetsOn state
 unretained_gets_on state h request orderly is unretained = by (head_of state request.line) refl
   where
     by : (head : Option Request) → head_of state request.line ≡ head → GetsOn state
@@ -188,10 +201,11 @@ unretained_gets_on state h request orderly is unretained = by (head_of state req
         head_gets_on state head orderly (request_of_first_of state.order request.line head orderly.once first)
         (ap (head_of state) line ∙ first) (ap (retainer_of state) line ∙ unretained)
 
-pub line_gets_on : (state : ModelState) (h : ℕ) (request : Request) → Orderly state → ordered_of state h ≡ Some request →
-    ((g : ℕ) → retains state g request.line ≡ false) → GetsOn state
+pub line_gets_on : (state : ModelState) (h : ℕ) (request : Request) → Orderly state →
+    ordered_of state h ≡ Some request → ((g : ℕ) → retains state g request.line ≡ false) → GetsOn state
 line_gets_on state h request orderly is unretained =
-    unretained_gets_on state h request orderly is (none_first (λ g. retains state g request.line) (numbers_of state) unretained)
+    unretained_gets_on state h request orderly is
+    (none_first (λ g. retains state g request.line) (numbers_of state) unretained)
 
 -- a hart that has stopped gets on by no step
 pub stopped_step : (state : ModelState) (h : ℕ) (status : HartStatus) → status ≢ Running →

@@ -1,5 +1,5 @@
--- the line that the hart of the least open stamp waits for: the hart's request has a less stamp than each other hart's live
--- section, so by the laws of lock removal no section retains the line; and a hart that holds it steps
+-- the line that the hart of the least open stamp waits for: the hart's request has a less stamp than each other hart's
+-- live section, so by the laws of lock removal no section retains the line; and a hart that holds it steps
 use Rattle.std.proofs.Common.{◌≡◌, ◌≢◌, ◌∙◌, ◌||◌, if◌then◌else◌, ℕ, Bool, true, false, List, [], ◌∷◌}
 use Rattle.std.proofs.Common.{Option, None, Some, is_some, refl, ap, sym}
 use Rattle.std.specs.List.{list_any}
@@ -7,7 +7,8 @@ use Rattle.bus_order.specs.Order.{Request}
 use Rattle.el_base.specs.declared.events.Event.{Event}
 use Rattle.el_base.specs.declared.events.Kind.TheVariants as kinds
 use Rattle.el_base.proofs.Laws.Cases.{false_true, true_false}
-use Rattle.el_model.specs.Deed.{Arms, Begins, Buffers, Commits, Continues, Elides, LetsGo, Misses, Rests, RollsBack, Runs, Waits}
+use Rattle.el_model.specs.Deed.{Arms, Begins, Buffers, Commits, Continues, Elides, LetsGo, Misses, Rests, RollsBack}
+use Rattle.el_model.specs.Deed.{Runs, Waits}
 use Rattle.el_model.specs.Deed.{Deed, DoesWhere, done, hart_after}
 use Rattle.el_model.specs.Next.{after, kind_turn, next}
 use Rattle.el_model.specs.Plain.{acquire_pc, after_candidate, candidate_of}
@@ -33,14 +34,15 @@ use Rattle.section_laws.proofs.Laws.Lengths.{runs_exists}
 use Rattle.stamp.specs.Stamps.{is_before}
 
 -- a message that a test takes is not in a box of which the test takes none
-not_in_box : (test : Message → Bool) (box : List Message) (message : Message) → list_any test box ≡ false → test message ≡ true →
-    has_message box message ≡ false
+not_in_box : (test : Message → Bool) (box : List Message) (message : Message) → list_any test box ≡ false →
+    test message ≡ true → has_message box message ≡ false
 not_in_box test [] message none takes = refl
 not_in_box test (first ∷ others) message none takes =
     by (test first) refl none (same_message first message) refl (λ rest. not_in_box test others message rest takes)
   where
-    by : (taken : Bool) → test first ≡ taken → (taken || list_any test others) ≡ false → (same : Bool) → same_message first message ≡ same →
-        (list_any test others ≡ false → has_message others message ≡ false) → (if same then true else has_message others message) ≡ false
+    by : (taken : Bool) → test first ≡ taken → (taken || list_any test others) ≡ false → (same : Bool) →
+        same_message first message ≡ same → (list_any test others ≡ false → has_message others message ≡ false) →
+        (if same then true else has_message others message) ≡ false
     by true is wrong same there further = true_false wrong
     by false is rest true same further = true_false (sym takes ∙ ap test (sym (same_is_one first message same)) ∙ is)
     by false is rest false apart further = further rest
@@ -57,9 +59,11 @@ module _ (state : ModelState) (h line : ℕ) (facts : Facts Everywhere state) (l
   before_others : (g : ℕ) → g ≢ h → is_live state g ≡ true → is_before least.request.stamp (attempt_of state g) ≡ true
   before_others g apart live = by (attempt_of state g) refl (facts.stamped.opened g live)
     where
-      by : (attempt : Option _) → attempt_of state g ≡ attempt → is_some attempt ≡ true → is_before least.request.stamp attempt ≡ true
+      by : (attempt : Option _) → attempt_of state g ≡ attempt → is_some attempt ≡ true →
+          is_before least.request.stamp attempt ≡ true
       by None is open_one = false_true open_one
-      by (Some other) is open_one = ap (λ stamp. is_before stamp (Some other)) stamp_is ∙ least.least.least g other apart is
+      by (Some other) is open_one =
+          ap (λ stamp. is_before stamp (Some other)) stamp_is ∙ least.least.least g other apart is
 
   waits_with_least : WaitsWithLeast state h line least.request
   waits_with_least = record { waits = least.waits; least = before_others }
@@ -85,8 +89,9 @@ ran_held : (pc : Option ℕ) (watched : Bool) (candidate : Option Swap) (hart : 
 ran_held pc watched None hart = refl
 ran_held pc watched (Some swap) hart = refl
 
-deed_ends_hold : (state : ModelState) (h : ℕ) (deed : Deed) → DoesWhere state h deed → status_of state.committed h ≡ Running →
-    has_request state h ≡ false → (hart_after state h deed (hart_of state h)).held_line ≡ None
+deed_ends_hold : (state : ModelState) (h : ℕ) (deed : Deed) → DoesWhere state h deed →
+    status_of state.committed h ≡ Running → has_request state h ≡ false →
+    (hart_after state h deed (hart_of state h)).held_line ≡ None
 deed_ends_hold state h Rests rests running free = absurd (rests running)
 deed_ends_hold state h Waits waits running free = true_false (sym waits.waits ∙ free)
 deed_ends_hold state h (Misses line need) does running free = refl
@@ -116,7 +121,8 @@ step_ends_hold state line orderly step kind held =
       ended =
           ap (λ turn. (hart_of turn.state h).held_line) turn_is
           ∙ ap (λ hart. hart.held_line)
-          (hart_of-with_hart_same state h (hart_after state h deed.deed (hart_of state h)) (runs_exists state h orderly.as_many running))
+          (hart_of-with_hart_same state h (hart_after state h deed.deed (hart_of state h))
+          (runs_exists state h orderly.as_many running))
           ∙ deed_ends_hold state h deed.deed deed.where_it running free;
     }
 

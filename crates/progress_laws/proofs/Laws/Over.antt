@@ -1,5 +1,6 @@
 -- a machine that is over gets on by no event, and one that is not has a hart that runs
-use Rattle.std.proofs.Common.{◌≡◌, ◌↔◌, ◌≢◌, ◌∙◌, ℕ, zero, suc, ◌<◌, ◌≤◌, Bool, true, false, ◌&&◌, List, [], ◌∷◌, None, length, refl, ap, sym, arith}
+use Rattle.std.proofs.Common.{◌≡◌, ◌↔◌, ◌≢◌, ◌∙◌, ℕ, zero, suc, ◌<◌, ◌≤◌, Bool, true, false, ◌&&◌, List, [], ◌∷◌, None}
+use Rattle.std.proofs.Common.{length, refl, ap, sym, arith}
 use Rattle.std.specs.Prelude.{slice_index_or}
 use Rattle.el_base.specs.declared.events.Kind.{Kind}
 use Rattle.el_base.specs.declared.events.Kind.TheVariants.{Step, Order, Serve, Deliver}
@@ -25,7 +26,8 @@ stopped_not_running Running stopped is = true_false (sym stopped)
 stopped_not_running (Exited code) stopped is = absurd (cc)
 stopped_not_running (Trapped cause pc) stopped is = absurd (cc)
 
-stopped_at : (views : List HartView) (h : ℕ) → all_stopped views ≡ true → has_stopped (slice_index_or views h no_hart).status ≡ true
+stopped_at : (views : List HartView) (h : ℕ) → all_stopped views ≡ true →
+    has_stopped (slice_index_or views h no_hart).status ≡ true
 stopped_at [] h all = refl
 stopped_at (view ∷ views) zero all = first_of_both (has_stopped view.status) _ all
 stopped_at (view ∷ views) (suc h) all = stopped_at views h (second_of_both (has_stopped view.status) _ all)
@@ -56,8 +58,8 @@ unfolding is_over
 runs_unless_over state going = some_runs state.committed.harts going
 
 -- a hart that has stopped, with an empty mailbox, gets on by no event
-stopped_rests : (state : ModelState) (h : ℕ) (kind : Kind) → Sound state → status_of state.committed h ≢ Running → (hart_of state h).mail ≡ [] →
-    is_progress (kind_turn state h kind).outcome ≡ false
+stopped_rests : (state : ModelState) (h : ℕ) (kind : Kind) → Sound state → status_of state.committed h ≢ Running →
+    (hart_of state h).mail ≡ [] → is_progress (kind_turn state h kind).outcome ≡ false
 unfolding step_turn order_turn serve_turn deliver_turn
 stopped_rests state h Step sound stopped mail = stopped_step state h (status_of state.committed h) stopped
 stopped_rests state h Order sound stopped mail =
@@ -78,13 +80,16 @@ none_ready_where_over state sound few over empty =
 of_kind_gets_on : (state : ModelState) (h : ℕ) (kind : Kind) → h < 8 →
     gets_on state (of_kind h kind) ≡ is_progress (kind_turn state h kind).outcome
 unfolding next
-of_kind_gets_on state h kind small = ap (λ number. is_progress (kind_turn state number kind).outcome) (number_kept h small)
+of_kind_gets_on state h kind small =
+    ap (λ number. is_progress (kind_turn state number kind).outcome) (number_kept h small)
 
 pub ready_where_gets_on : (state : ModelState) → length state.harts ≤ 8 → GetsOn state → ready_event state ≢ None
 ready_where_gets_on state few on none =
     let exists = on.exists in
     let small : on.hart < 8 = omega (arith, exists, few) in
-    let rests = (none_is_ready_where_none_gets_on state few).0 none (of_kind on.hart on.kind) (rw (number_kept on.hart small) exists) in
+    let rests =
+    (none_is_ready_where_none_gets_on state few).0 none (of_kind on.hart on.kind)
+    (rw (number_kept on.hart small) exists) in
     true_false (sym on.progress ∙ sym (of_kind_gets_on state on.hart on.kind small) ∙ rests)
 
 -- so where a hart that runs is enough to get on, none is ready exactly where the machine is over
@@ -99,7 +104,7 @@ none_ready_over state few on none = by (is_over state) refl
         absurd (ready_where_gets_on state few (on runs.0 runs.1) none)
 
 pub not_stuck : (state : ModelState) → Orderly state → length state.harts ≤ 8 →
-    ((h : ℕ) → status_of state.committed h ≡ Running → GetsOn state) → (is_over state ≡ true → (h : ℕ) → (hart_of state h).mail ≡ []) →
-    (ready_event state ≡ None) ↔ (is_over state ≡ true)
+    ((h : ℕ) → status_of state.committed h ≡ Running → GetsOn state) →
+    (is_over state ≡ true → (h : ℕ) → (hart_of state h).mail ≡ []) → (ready_event state ≡ None) ↔ (is_over state ≡ true)
 not_stuck state orderly few on empty =
     (none_ready_over state few on, λ over. none_ready_where_over state orderly.sound few over (empty over))

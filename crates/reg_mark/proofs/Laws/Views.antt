@@ -1,7 +1,8 @@
 -- What the committed and the present view are after each call.
 use Rattle.std.proofs.Common.{◌≡◌, ℕ, Option, None, Some, refl}
 use Rattle.reg_mark.specs.declared.marked.Marked.{Marked}
-use Rattle.reg_mark.specs.Marks.{back_of, checkpoint_or, committed_of, kept_of, marked, marks_unreserved, unmarked, views_unreserved}
+use Rattle.reg_mark.specs.Marks.{back_of, checkpoint_or, committed_of, kept_of, marked, marks_unreserved, unmarked}
+use Rattle.reg_mark.specs.Marks.{views_unreserved}
 use Rattle.rv_alu.specs.declared.view.HartView.{HartView}
 use Rattle.rv_alu.specs.Reservations.{unreserved}
 
@@ -26,10 +27,12 @@ pub back_of_marked : (view : HartView) → back_of (marked (unmarked view)) ≡ 
 back_of_marked view = refl
 
 -- the committed view loses its reservation
-pub committed_unreserved : (line : ℕ) (marks : Marked) → committed_of (marks_unreserved line marks) ≡ unreserved line (committed_of marks)
+pub committed_unreserved : (line : ℕ) (marks : Marked) →
+    committed_of (marks_unreserved line marks) ≡ unreserved line (committed_of marks)
 committed_unreserved line marks = of marks.mark
   where
-    of : (mark : Option HartView) → committed_of (views_unreserved line mark marks.present) ≡ unreserved line (checkpoint_or mark marks.present)
+    of : (mark : Option HartView) → committed_of (views_unreserved line mark marks.present)
+        ≡ unreserved line (checkpoint_or mark marks.present)
     of None = refl
     of (Some mark) = refl
 
@@ -38,6 +41,7 @@ pub present_unreserved : (line : ℕ) (marks : Marked) (mark : HartView) → mar
     → (marks_unreserved line marks).present ≡ marks.present
 present_unreserved line marks mark stands = of marks.mark stands
   where
-    of : (found : Option HartView) → found ≡ Some mark → (views_unreserved line found marks.present).present ≡ marks.present
+    of : (found : Option HartView) → found ≡ Some mark →
+        (views_unreserved line found marks.present).present ≡ marks.present
     of None stands = absurd cc
     of (Some found) stands = refl

@@ -8,7 +8,8 @@ use Rattle.el_base.specs.declared.events.Event.{Event}
 use Rattle.el_base.proofs.Laws.Cases.{false_true, none_some}
 use Rattle.elf_image.specs.Program.{Program}
 use Rattle.el_model.specs.Attempts.{opened}
-use Rattle.el_model.specs.Deed.{Arms, Begins, Buffers, Commits, Continues, Deed, DoesWhere, Elides, LetsGo, Misses, Rests, RollsBack, Runs, Waits, hart_after}
+use Rattle.el_model.specs.Deed.{Arms, Begins, Buffers, Commits, Continues, Deed, DoesWhere, Elides, LetsGo, Misses}
+use Rattle.el_model.specs.Deed.{Rests, RollsBack, Runs, Waits, hart_after}
 use Rattle.el_model.specs.Next.{after, next}
 use Rattle.el_model.specs.Plain.{after_candidate, candidate_of}
 use Rattle.el_model.specs.Serve.{with_claim}
@@ -31,11 +32,13 @@ Own h hart = (stamp : Stamp) → hart.attempt ≡ Some stamp → IsOwn h hart.cl
 
 -- an event of the bus keeps what is said of a hart's section, clock and attempt, unless the section is lost
 pub record Attempting (P : ℕ → Option Section → ℕ → Option Stamp → Type 0) : Type 0 where
-  pub lost : (h : ℕ) (section : Option Section) (clock : ℕ) (attempt : Option Stamp) → P h section clock attempt → P h None clock attempt
+  pub lost : (h : ℕ) (section : Option Section) (clock : ℕ) (attempt : Option Stamp) → P h section clock attempt →
+      P h None clock attempt
 
 module _ (P : ℕ → Option Section → ℕ → Option Stamp → Type 0) (keeps : Attempting P) where
   claim_keeps : (h : ℕ) (live : Bool) (request : Request) (hart : Hart) → P h hart.section hart.clock hart.attempt →
-      P h (with_claim live request hart).section (with_claim live request hart).clock (with_claim live request hart).attempt
+      P h (with_claim live request hart).section (with_claim live request hart).clock
+      (with_claim live request hart).attempt
   claim_keeps h true request hart now = now
   claim_keeps h false request hart now = now
 
@@ -70,8 +73,9 @@ own_bus =
     attempts_kept (λ h section clock attempt. (stamp : Stamp) → attempt ≡ Some stamp → IsOwn h clock stamp)
     (record { lost = λ h section clock attempt now. now })
 
-own_opened : (mode : Mode) (h clock : ℕ) (attempt : Option Stamp) → ((stamp : Stamp) → attempt ≡ Some stamp → IsOwn h clock stamp) →
-    (stamp : Stamp) → opened mode h clock attempt ≡ Some stamp → IsOwn h clock stamp
+own_opened : (mode : Mode) (h clock : ℕ) (attempt : Option Stamp) →
+    ((stamp : Stamp) → attempt ≡ Some stamp → IsOwn h clock stamp) → (stamp : Stamp) →
+    opened mode h clock attempt ≡ Some stamp → IsOwn h clock stamp
 own_opened Tlr h clock None own stamp is =
     let same : stamp ≡ record { clock = clock; hart = h } = cc in
     rw same (record { hart = refl; clock_is = refl })
@@ -97,7 +101,8 @@ own_deed state h (LetsGo armed) hart own = own
 
 pub next_own : (state : ModelState) (event : Event) → Each Own state → Each Own (next state event).state
 next_own state event own =
-    event_keeps own_bus state event (λ deed does. own_deed state event.hart.number deed (hart_of state event.hart.number) (own event.hart.number)) own
+    event_keeps own_bus state event
+    (λ deed does. own_deed state event.hart.number deed (hart_of state event.hart.number) (own event.hart.number)) own
 
 record IsFresh (hart : Hart) : Type 0 where
   no_section : hart.section ≡ None
@@ -106,14 +111,16 @@ record IsFresh (hart : Hart) : Type 0 where
 fresh : (program : Program) (config : Config) (h : ℕ) → IsFresh (hart_of (begin program config) h)
 unfolding begin
 fresh program config h =
-    all_first IsFresh program.harts (new_hart config.sets) (new_hart 0) (record { no_section = refl; no_attempt = refl })
+    all_first IsFresh program.harts (new_hart config.sets) (new_hart 0)
+    (record { no_section = refl; no_attempt = refl })
     (record { no_section = refl; no_attempt = refl }) h
 
 pub first_own : (program : Program) (config : Config) → Each Own (begin program config)
 first_own program config h stamp is = none_some (sym (fresh program config h).no_attempt ∙ is)
 
 pub always_own : (program : Program) (config : Config) (events : List Event) → Each Own (after program config events)
-always_own program config events = kept_after (Each Own) next_own (begin program config) events (first_own program config)
+always_own program config events =
+    kept_after (Each Own) next_own (begin program config) events (first_own program config)
 
 pub attempts_are_current : AttemptsAreCurrent
 attempts_are_current program config events h stamp is =
@@ -136,7 +143,8 @@ open_bus =
     attempts_kept (λ h section clock attempt. is_some section ≡ true → is_some attempt ≡ true)
     (record { lost = λ h section clock attempt now live. false_true live })
 
-opened_open : (mode : Mode) (h clock : ℕ) (attempt : Option Stamp) → mode ≡ Tlr → is_some (opened mode h clock attempt) ≡ true
+opened_open : (mode : Mode) (h clock : ℕ) (attempt : Option Stamp) → mode ≡ Tlr →
+    is_some (opened mode h clock attempt) ≡ true
 opened_open Tlr h clock None is = refl
 opened_open Tlr h clock (Some stamped) is = refl
 opened_open Sle h clock attempt is = absurd (cc)
@@ -148,7 +156,8 @@ open_deed state h Rests does now = now.open_each h
 open_deed state h Waits does now = now.open_each h
 open_deed state h (Misses line need) does now = now.open_each h
 open_deed state h (Runs touch) does now =
-    candidate_keeps (λ section clock seen attempt. is_some section ≡ true → is_some attempt ≡ true) _ _ (candidate_of state h) _
+    candidate_keeps (λ section clock seen attempt. is_some section ≡ true → is_some attempt ≡ true) _ _
+    (candidate_of state h) _
     (now.open_each h)
 open_deed state h (Begins swap) does now =
     λ live. opened_open state.config.mode h (hart_of state h).clock (hart_of state h).attempt now.mode
@@ -165,14 +174,16 @@ open_deed state h (LetsGo armed) does now = now.open_each h
 pub next_open : (state : ModelState) (event : Event) → AllOpen state → AllOpen (next state event).state
 next_open state event now = record {
   mode = ap (λ config. config.mode) (next_config state event) ∙ now.mode;
-  open_each = event_keeps open_bus state event (λ deed does. open_deed state event.hart.number deed does now) now.open_each;
+  open_each =
+      event_keeps open_bus state event (λ deed does. open_deed state event.hart.number deed does now) now.open_each;
 }
 
 begin_mode : (program : Program) (config : Config) → config.mode ≡ Tlr → (begin program config).config.mode ≡ Tlr
 unfolding begin
 begin_mode program config mode = mode
 
-pub always_open : (program : Program) (config : Config) (events : List Event) → config.mode ≡ Tlr → AllOpen (after program config events)
+pub always_open : (program : Program) (config : Config) (events : List Event) → config.mode ≡ Tlr →
+    AllOpen (after program config events)
 always_open program config events mode =
     kept_after AllOpen next_open (begin program config) events
     (record {

@@ -12,11 +12,13 @@ use Rattle.el_base.specs.declared.config.Mode.TheVariants.{Tlr}
 use Rattle.el_base.specs.declared.events.Event.{Event}
 use Rattle.el_base.proofs.Laws.Cases.{none_some}
 use Rattle.el_base.proofs.Laws.Tests.{own_test, second_of_both}
-use Rattle.el_model.specs.BusEvent.{AtFace, AtProbe, Becomes, IsAbsent, IsBusEvent, IsLetGo, IsSent, LosesIt, LosesWhere}
+use Rattle.el_model.specs.BusEvent.{AtFace, AtProbe, Becomes, IsAbsent, IsBusEvent, IsLetGo, IsSent, LosesIt}
+use Rattle.el_model.specs.BusEvent.{LosesWhere}
 use Rattle.el_model.specs.BusEvent.{Nothing, Places, Sees, Serves}
 use Rattle.el_model.specs.BusEvent.{Start, Starts, StartsWhere, Takes, as_faced, faced_head, order_after}
 use Rattle.el_model.specs.Conflicts.{retains, stamp_in, told_winner}
-use Rattle.el_model.specs.Deed.{Arms, Begins, Buffers, Commits, Continues, Deed, Elides, LetsGo, Misses, Rests, RollsBack, Runs, Waits, outcome_of}
+use Rattle.el_model.specs.Deed.{Arms, Begins, Buffers, Commits, Continues, Deed, Elides, LetsGo, Misses, Rests}
+use Rattle.el_model.specs.Deed.{RollsBack, Runs, Waits, outcome_of}
 use Rattle.el_model.specs.Face.{winning_stamp}
 use Rattle.el_model.specs.Next.{after, next, step_turn}
 use Rattle.el_model.specs.Order.{Alone, Behind, InFront}
@@ -41,7 +43,8 @@ use Rattle.stamp.specs.Stamps.{Stamp, is_before}
 -- an event of the bus opens and closes no attempt
 pub same_attempts : (state : ModelState) → BusKept (λ g hart. hart.attempt ≡ attempt_of state g)
 same_attempts state =
-    attempts_kept (λ g section clock attempt. attempt ≡ attempt_of state g) (record { lost = λ h section clock attempt now. now })
+    attempts_kept (λ g section clock attempt. attempt ≡ attempt_of state g)
+    (record { lost = λ h section clock attempt now. now })
 
 -- a hart that has lost has seen the stamp by which it was
 record IsBeaten (state : ModelState) (by : ℕ) (start : Start) (g winner seen : ℕ) : Type 0 where
@@ -54,14 +57,16 @@ becomes_beaten : (state : ModelState) (by : ℕ) (start : Start) (g winner : ℕ
     lost ≡ Some winner → Becomes state by start g lost hart → IsBeaten state by start g winner hart.seen
 becomes_beaten state by start g winner mode is (IsAbsent past) = none_some is
 becomes_beaten state by start g winner mode is (Starts below) = none_some is
-becomes_beaten state by start g winner mode is (IsSent message lost hart sent before) = becomes_beaten state by start g winner mode is before
+becomes_beaten state by start g winner mode is (IsSent message lost hart sent before) =
+    becomes_beaten state by start g winner mode is before
 becomes_beaten state by start g winner mode is (IsLetGo head hart frees before) = none_some is
 becomes_beaten state by start g winner mode is (Sees head lost hart defers before) =
     let it = becomes_beaten state by start g winner mode is before in
     record {
       stamp = it.stamp;
       loses = it.loses;
-      saw = λ at at_is. let was = it.saw at at_is in let more = seen_grows hart.seen head.stamp in omega (arith, was, more);
+      saw = λ at at_is. let was = it.saw at at_is in
+          let more = seen_grows hart.seen head.stamp in omega (arith, was, more);
     }
 becomes_beaten state by start g winner mode is (LosesIt found stamp hart loses before) = record {
   stamp = stamp;
@@ -79,7 +84,8 @@ record WonBy (state : ModelState) (start : Start) (g winner : ℕ) (stamp : Opti
 -- a head that is faced is ordered
 placed_head : (state : ModelState) (by : ℕ) (request : Request) → Once state → raised_of state by ≡ Some request →
     ordered_of state request.hart ≡ None
-placed_head state by request once raised = free_of_order state request.hart request once.sound (raised_own state by request once.sound raised)
+placed_head state by request once raised =
+    free_of_order state request.hart request once.sound (raised_own state by request once.sound raised)
 
 head_ordered : (state : ModelState) (by : ℕ) (start : Start) (head : Request) → Once state →
     StartsWhere state by start →
@@ -93,12 +99,14 @@ head_ordered state by (Places request Alone) head once may is =
     subst (λ r. request_of (order_after state (Places request Alone)) r.hart ≡ Some r) (same_Some _ _ is)
     (placed_own state request Alone (placed_head state by request once may.raised))
 head_ordered state by (Serves request) head once may is =
-    request_of_first_of (removed state.order request.hart) request.line head (one_each_removed state.order request.hart once.once)
+    request_of_first_of (removed state.order request.hart) request.line head
+    (one_each_removed state.order request.hart once.once)
     (sym (ap (λ order. first_of order request.line) (served_order state request)) ∙ is)
 head_ordered state by (Takes message others) head once where_it is = none_some is
 
 -- a section that is lost as a head is faced
-module _ (state : ModelState) (by : ℕ) (start : Start) (head : Request) (is : faced_head state start ≡ Some head) (once : Once state)
+module _ (state : ModelState) (by : ℕ) (start : Start) (head : Request) (is : faced_head state start ≡ Some head)
+    (once : Once state)
     (where_it : StartsWhere state by start) (g winner : ℕ) where
   abbrev mid : ModelState
   mid = as_faced state by start head
@@ -111,7 +119,8 @@ module _ (state : ModelState) (by : ℕ) (start : Start) (head : Request) (is : 
 
   head_stamp : winning_stamp mid head.line head.hart ≡ head.stamp
   head_stamp =
-      ap (λ found. stamp_in (for_line head.line found)) (mid_ordered head.hart ∙ head_ordered state by start head once where_it is)
+      ap (λ found. stamp_in (for_line head.line found))
+      (mid_ordered head.hart ∙ head_ordered state by start head once where_it is)
       ∙ ap (λ same. stamp_in (if same then Some head else None)) (own_test head.line)
 
   told_won : (found : Option Request) → ordered_on mid winner head.line ≡ found → is_before (stamp_in found)
@@ -137,14 +146,17 @@ module _ (state : ModelState) (by : ℕ) (start : Start) (head : Request) (is : 
           WonBy state start g winner (winning_stamp mid head.line winner)
       by_why (inl (same, less)) = record {
         request = head;
-        waits = subst (λ k. request_of (order_after state start) k ≡ Some head) (sym same) (head_ordered state by start head once where_it is);
+        waits =
+            subst (λ k. request_of (order_after state start) k ≡ Some head) (sym same)
+            (head_ordered state by start head once where_it is);
         stamp_is = sym (ap (winning_stamp mid head.line) same ∙ head_stamp);
         earlier = subst (λ attempt. is_before head.stamp attempt ≡ true) mid_attempt less;
       }
       by_why (inr told) =
           told_won (ordered_on mid winner head.line) refl
           (second_of_both (has (hart_of mid g).told winner) _
-          (least_passes (λ o. has (hart_of mid g).told o && is_before (stamp_in (ordered_on mid o head.line)) (hart_of mid g).attempt)
+          (least_passes (λ o. has (hart_of mid g).told o && is_before (stamp_in (ordered_on mid o head.line))
+          (hart_of mid g).attempt)
           (λ o. stamp_in (ordered_on mid o head.line)) (numbers_of mid) winner told))
 
 won_by : (state : ModelState) (by : ℕ) {start : Start} {g winner : ℕ} {stamp : Option Stamp} → state.config.mode ≡ Tlr →
@@ -166,13 +178,16 @@ turn_beats : {state : ModelState} {by : ℕ} {turn : Turn} → IsBusEvent state 
     Once state → (g winner : ℕ) →
     winner_over turn.outcome g ≡ Some winner → LosesToEarlier turn.state g winner
 turn_beats {state} {by} {turn} done mode once g winner lost =
-    let beaten = becomes_beaten state by done.start g winner mode (named_by_map done.lost g winner (sym (done.names g) ∙ lost)) (done.becomes g) in
+    let beaten =
+    becomes_beaten state by done.start g winner mode (named_by_map done.lost g winner (sym (done.names g) ∙ lost))
+    (done.becomes g) in
     let won = won_by state by mode once done.where_it beaten.loses in
     record {
       request = won.request;
       waits = ap (λ order. request_of order winner) done.order ∙ won.waits;
       earlier =
-          subst (λ attempt. is_before won.request.stamp attempt ≡ true) (sym (turn_keeps (same_attempts state) done (λ k. refl) g)) won.earlier;
+          subst (λ attempt. is_before won.request.stamp attempt ≡ true)
+          (sym (turn_keeps (same_attempts state) done (λ k. refl) g)) won.earlier;
       seen = λ stamp stamp_is. beaten.saw stamp (sym won.stamp_is ∙ stamp_is);
     }
 
@@ -201,7 +216,8 @@ pub next_beats : (state : ModelState) (event : Event) → state.config.mode ≡ 
     winner_over (next state event).outcome g ≡ Some winner → LosesToEarlier (next state event).state g winner
 next_beats state event mode once g winner =
     by_event (λ turn. winner_over turn.outcome g ≡ Some winner → LosesToEarlier turn.state g winner) state event
-    (λ step lost. step_names state event.hart.number g winner lost) (λ turn done lost. turn_beats done mode once g winner lost)
+    (λ step lost. step_names state event.hart.number g winner lost)
+    (λ turn done lost. turn_beats done mode once g winner lost)
 
 pub losers_lose_to_earlier : LosersLoseToEarlier
 losers_lose_to_earlier program config events event g winner mode lost =

@@ -1,5 +1,6 @@
 -- clocks only grow, and as an attempt closes its hart's clock becomes greater than all that it was and had seen
-use Rattle.std.proofs.Common.{◌≡◌, ◌∙◌, ◌<◌, ◌≤◌, ◌==◌, ◌&&◌, ◌||◌, ℕ, Bool, true, false, List, [], ◌∷◌, Option, None, Some, is_some, length, refl}
+use Rattle.std.proofs.Common.{◌≡◌, ◌∙◌, ◌<◌, ◌≤◌, ◌==◌, ◌&&◌, ◌||◌, ℕ, Bool, true, false, List, [], ◌∷◌, Option, None}
+use Rattle.std.proofs.Common.{Some, is_some, length, refl}
 use Rattle.std.proofs.Common.{ap, sym, arith}
 use Rattle.bus_order.specs.Order.{Request}
 use Rattle.el_base.specs.declared.config.Mode.{Mode}
@@ -10,7 +11,8 @@ use Rattle.el_base.specs.declared.outcomes.Outcome.TheVariants as outcomes
 use Rattle.el_base.proofs.Laws.Tests.{number_of_test, own_test}
 use Rattle.el_model.specs.Attempts.{closed_clock, opened}
 use Rattle.el_model.specs.BusEvent.{IsOfBus}
-use Rattle.el_model.specs.Deed.{Arms, Begins, Buffers, Commits, Continues, Deed, DoesWhere, Elides, LetsGo, Misses, Rests, RollsBack, Runs, Waits}
+use Rattle.el_model.specs.Deed.{Arms, Begins, Buffers, Commits, Continues, Deed, DoesWhere, Elides, LetsGo, Misses}
+use Rattle.el_model.specs.Deed.{Rests, RollsBack, Runs, Waits}
 use Rattle.el_model.specs.Deed.{done, hart_after, outcome_of}
 use Rattle.el_model.specs.Next.{after, next, state_after, step_turn}
 use Rattle.el_model.specs.Plain.{candidate_of}
@@ -21,7 +23,8 @@ use Rattle.el_model.proofs.Laws.Deeds.{is_rolled, step_deed}
 use Rattle.el_model.proofs.Laws.FromStart.{kept_after}
 use Rattle.el_model.proofs.Laws.Harts.{hart_of-past}
 use Rattle.removal_laws.specs.Laws.{IsLater, LaterAttemptsAreLater, StampsAreKept, attempt_of, closes}
-use Rattle.removal_laws.proofs.Laws.Attempts.{AllOpen, Own, always_open, always_own, attempts_kept, candidate_keeps, next_open, next_own}
+use Rattle.removal_laws.proofs.Laws.Attempts.{AllOpen, Own, always_open, always_own, attempts_kept, candidate_keeps}
+use Rattle.removal_laws.proofs.Laws.Attempts.{next_open, next_own}
 use Rattle.section_laws.proofs.Laws.Bits.{no_less}
 use Rattle.section_laws.specs.Sections.{is_committed, is_rolled_back}
 use Rattle.el_model.proofs.Laws.EachHart.{Each, each_but, each_with}
@@ -36,7 +39,8 @@ closes_it outcome = is_committed outcome || is_rolled_back outcome
 abbrev Kept : ModelState → (ℕ → Bool) → Stamp → ℕ → Hart → Type 0
 Kept state closing stamp g hart = closing g ≡ false → attempt_of state g ≡ Some stamp → hart.attempt ≡ Some stamp
 
-opened_kept : (mode : Mode) (h clock : ℕ) (attempt : Option Stamp) (stamp : Stamp) → attempt ≡ Some stamp → opened mode h clock attempt ≡ Some stamp
+opened_kept : (mode : Mode) (h clock : ℕ) (attempt : Option Stamp) (stamp : Stamp) → attempt ≡ Some stamp →
+    opened mode h clock attempt ≡ Some stamp
 opened_kept Tlr h clock None stamp is = absurd (cc)
 opened_kept Tlr h clock (Some stamped) stamp is = is
 opened_kept Sle h clock attempt stamp is = is
@@ -57,11 +61,13 @@ deed_kept state h stamp (Buffers section touch) = λ still is. is
 deed_kept state h stamp (Commits section) = λ still is. own_closes h still
 deed_kept state h stamp (RollsBack section cause) = λ still is. own_closes h still
 deed_kept state h stamp (Arms word) = λ still is. is
-deed_kept state h stamp (Elides armed swap) = λ still is. opened_kept state.config.mode h (hart_of state h).clock _ stamp is
+deed_kept state h stamp (Elides armed swap) =
+    λ still is. opened_kept state.config.mode h (hart_of state h).clock _ stamp is
 deed_kept state h stamp (Continues armed) = λ still is. is
 deed_kept state h stamp (LetsGo armed) = λ still is. is
 
-bus_kept : (state : ModelState) (stamp : Stamp) → BusKept (λ g hart. attempt_of state g ≡ Some stamp → hart.attempt ≡ Some stamp)
+bus_kept : (state : ModelState) (stamp : Stamp) →
+    BusKept (λ g hart. attempt_of state g ≡ Some stamp → hart.attempt ≡ Some stamp)
 bus_kept state stamp =
     attempts_kept (λ g section clock attempt. attempt_of state g ≡ Some stamp → attempt ≡ Some stamp)
     (record { lost = λ h section clock attempt now. now })
@@ -79,8 +85,10 @@ next_kept : (state : ModelState) (event : Event) (g : ℕ) (stamp : Stamp) → c
     attempt_of state g ≡ Some stamp → attempt_of (next state event).state g ≡ Some stamp
 next_kept state event g stamp =
     by_event
-    (λ turn. ((event.hart.number == g) && closes_it turn.outcome) ≡ false → attempt_of state g ≡ Some stamp → attempt_of turn.state g ≡ Some stamp)
-    state event (λ step. step_kept state event.hart.number g stamp) (λ turn done still. turn_keeps (bus_kept state stamp) done (λ k is. is) g)
+    (λ turn. ((event.hart.number == g) && closes_it turn.outcome) ≡ false → attempt_of state g ≡ Some stamp →
+    attempt_of turn.state g ≡ Some stamp)
+    state event (λ step. step_kept state event.hart.number g stamp)
+    (λ turn done still. turn_keeps (bus_kept state stamp) done (λ k is. is) g)
 
 pub stamps_are_kept : StampsAreKept
 stamps_are_kept state h [] stamp still is = is
@@ -95,7 +103,8 @@ record Grown (old hart : Hart) : Type 0 where
 abbrev Growing : ModelState → ℕ → Hart → Type 0
 Growing state g hart = Grown (hart_of state g) hart
 
-claim_grows : (old : Hart) (live : Bool) (request : Request) (hart : Hart) → Grown old hart → Grown old (with_claim live request hart)
+claim_grows : (old : Hart) (live : Bool) (request : Request) (hart : Hart) → Grown old hart →
+    Grown old (with_claim live request hart)
 claim_grows old true request hart now = record { clock = now.clock; seen = now.seen }
 claim_grows old false request hart now = record { clock = now.clock; seen = now.seen }
 
@@ -119,7 +128,8 @@ bus_grows state = record {
   };
   unraised = λ h hart now. same_clocks (hart_of state h) hart _ refl refl now;
   served = λ h old request hart now.
-      claim_grows (hart_of state h) (is_some hart.section) request _ (same_clocks (hart_of state h) hart _ refl refl now);
+      claim_grows (hart_of state h) (is_some hart.section) request _
+      (same_clocks (hart_of state h) hart _ refl refl now);
   bystander = λ h old request hart now. same_clocks (hart_of state h) hart _ refl refl now;
 }
 
@@ -136,13 +146,18 @@ deed_grows state h Waits hart = ungrown hart
 deed_grows state h (Misses line need) hart = same_clocks hart hart _ refl refl (ungrown hart)
 deed_grows state h (Runs touch) hart =
     record {
-      clock = candidate_keeps (λ section clock seen attempt. hart.clock ≤ clock) _ _ (candidate_of state h) _ (no_less hart.clock);
-      seen = candidate_keeps (λ section clock seen attempt. hart.seen ≤ seen) _ _ (candidate_of state h) _ (no_less hart.seen);
+      clock =
+          candidate_keeps (λ section clock seen attempt. hart.clock ≤ clock) _ _ (candidate_of state h) _
+          (no_less hart.clock);
+      seen =
+          candidate_keeps (λ section clock seen attempt. hart.seen ≤ seen) _ _ (candidate_of state h) _
+          (no_less hart.seen);
     }
 deed_grows state h (Begins swap) hart = same_clocks hart hart _ refl refl (ungrown hart)
 deed_grows state h (Buffers section touch) hart = same_clocks hart hart _ refl refl (ungrown hart)
 deed_grows state h (Commits section) hart = record { clock = closed_grows hart hart.attempt; seen = no_less hart.seen }
-deed_grows state h (RollsBack section cause) hart = record { clock = closed_grows hart hart.attempt; seen = no_less hart.seen }
+deed_grows state h (RollsBack section cause) hart =
+    record { clock = closed_grows hart hart.attempt; seen = no_less hart.seen }
 deed_grows state h (Arms word) hart = same_clocks hart hart _ refl refl (ungrown hart)
 deed_grows state h (Elides armed swap) hart = same_clocks hart hart _ refl refl (ungrown hart)
 deed_grows state h (Continues armed) hart = same_clocks hart hart _ refl refl (ungrown hart)
@@ -150,10 +165,12 @@ deed_grows state h (LetsGo armed) hart = same_clocks hart hart _ refl refl (ungr
 
 next_grows : (state : ModelState) (event : Event) (g : ℕ) → Grown (hart_of state g) (hart_of (next state event).state g)
 next_grows state event =
-    event_keeps (bus_grows state) state event (λ deed does. deed_grows state event.hart.number deed (hart_of state event.hart.number))
+    event_keeps (bus_grows state) state event
+    (λ deed does. deed_grows state event.hart.number deed (hart_of state event.hart.number))
     (λ k. ungrown (hart_of state k))
 
-all_grow : (state : ModelState) (events : List Event) (g : ℕ) → Grown (hart_of state g) (hart_of (state_after state events) g)
+all_grow : (state : ModelState) (events : List Event) (g : ℕ) →
+    Grown (hart_of state g) (hart_of (state_after state events) g)
 all_grow state [] g = ungrown (hart_of state g)
 all_grow state (event ∷ events) g =
     let one = next_grows state event g in
@@ -172,7 +189,8 @@ record Closed (old hart : Hart) : Type 0 where
 abbrev Closing : ModelState → (ℕ → Bool) → ℕ → Hart → Type 0
 Closing state closing g hart = closing g ≡ true → Closed (hart_of state g) hart
 
-attempt_closes : (old hart : Hart) → is_some old.attempt ≡ true → hart.clock ≡ closed_clock old old.attempt → Closed old hart
+attempt_closes : (old hart : Hart) → is_some old.attempt ≡ true →
+    hart.clock ≡ closed_clock old old.attempt → Closed old hart
 attempt_closes old hart some clock = by old.attempt refl
   where
     by : (attempt : Option Stamp) → old.attempt ≡ attempt → Closed old hart
@@ -203,7 +221,8 @@ deed_closes state h (RollsBack section cause) does now =
     λ closing.
     attempt_closes (hart_of state h) _ (now.open_each h (ap is_some (is_rolled state h section cause does).live)) refl
 
-live_exists : {X : Type 0} (state : ModelState) (h : ℕ) → length state.harts ≤ h → is_some (section_of state h) ≡ true → X
+live_exists : {X : Type 0} (state : ModelState) (h : ℕ) → length state.harts ≤ h →
+    is_some (section_of state h) ≡ true → X
 live_exists state h past live =
     let e : false ≡ true = sym (ap (λ hart. is_some hart.section) (hart_of-past state h past)) ∙ live in
     absurd (cc)
@@ -211,7 +230,8 @@ live_exists state h past live =
 done_closes : (state : ModelState) (h : ℕ) (deed : Deed) → DoesWhere state h deed → AllOpen state →
     Each (Closing state (λ g. (h == g) && closes_it (outcome_of deed))) (done state h deed).state
 done_closes state h deed does now =
-    each_but (Closing state (λ g. (h == g) && closes_it (outcome_of deed))) state h (hart_after state h deed (hart_of state h))
+    each_but (Closing state (λ g. (h == g) && closes_it (outcome_of deed))) state h
+    (hart_after state h deed (hart_of state h))
     (deed_closes state h deed does now)
     (λ g apart closing. absurd (apart (sym (number_of_test h g (first (h == g) _ closing)))))
     (λ past closing. past_closes state h deed does past closing)
@@ -232,7 +252,8 @@ done_closes state h deed does now =
     past_closes state h (Elides armed swap) does past closing = never (h == h) closing
     past_closes state h (Continues armed) does past closing = never (h == h) closing
     past_closes state h (LetsGo armed) does past closing = never (h == h) closing
-    past_closes state h (Commits section) does past closing = live_exists state h past (ap is_some does.goes_on.is_short.inside.live)
+    past_closes state h (Commits section) does past closing =
+        live_exists state h past (ap is_some does.goes_on.is_short.inside.live)
     past_closes state h (RollsBack section cause) does past closing =
         live_exists state h past (ap is_some (is_rolled state h section cause does).live)
 
@@ -255,7 +276,8 @@ closes_not true outcomes.Armed bus closing = elim bus [ ]
 closes_not true (outcomes.LetGo count) bus closing = elim bus [ ]
 
 step_closes : (state : ModelState) (h g : ℕ) → AllOpen state →
-    ((h == g) && closes_it (step_turn state h).outcome) ≡ true → Closed (hart_of state g) (hart_of (step_turn state h).state g)
+    ((h == g) && closes_it (step_turn state h).outcome) ≡ true →
+    Closed (hart_of state g) (hart_of (step_turn state h).state g)
 step_closes state h g now =
     let step = step_deed state h in
     rw step.turn_is (done_closes state h step.deed step.where_it now g)
@@ -263,13 +285,15 @@ step_closes state h g now =
 next_closes : (state : ModelState) (event : Event) (g : ℕ) → AllOpen state → closes state event g ≡ true →
     Closed (hart_of state g) (hart_of (next state event).state g)
 next_closes state event g now =
-    by_event (λ turn. ((event.hart.number == g) && closes_it turn.outcome) ≡ true → Closed (hart_of state g) (hart_of turn.state g)) state event
+    by_event (λ turn. ((event.hart.number == g) && closes_it turn.outcome) ≡ true →
+    Closed (hart_of state g) (hart_of turn.state g)) state event
     (λ step. step_closes state event.hart.number g now)
     (λ turn done closing. closes_not (event.hart.number == g) turn.outcome done.of_bus closing)
 
-pub later_from : (first : ModelState) (between afterwards : List Event) (closing : Event) (h : ℕ) (later : Stamp) → Each Own first → AllOpen first →
-    closes (state_after first between) closing h ≡ true →
-    attempt_of (state_after (next (state_after first between) closing).state afterwards) h ≡ Some later → IsLater first h later
+pub later_from : (first : ModelState) (between afterwards : List Event) (closing : Event) (h : ℕ) (later : Stamp) →
+    Each Own first → AllOpen first → closes (state_after first between) closing h ≡ true →
+    attempt_of (state_after (next (state_after first between) closing).state afterwards) h ≡ Some later →
+    IsLater first h later
 later_from first between afterwards closing h later own open_first closed is =
     let before = state_after first between in
     let after_it = (next before closing).state in

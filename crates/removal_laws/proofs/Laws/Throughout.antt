@@ -27,7 +27,8 @@ use Rattle.section_laws.proofs.Laws.ArmedBits as bits
 use Rattle.section_laws.proofs.Laws.EachKept.{first_each}
 use Rattle.section_laws.proofs.Laws.Numbered.{first_once}
 
-kind_stands : (state : ModelState) (h : ℕ) (kind : Kind) → Grounds state → Standing state → Standing (kind_turn state h kind).state
+kind_stands : (state : ModelState) (h : ℕ) (kind : Kind) → Grounds state → Standing state →
+    Standing (kind_turn state h kind).state
 unfolding order_turn serve_turn
 kind_stands state h kinds.Step grounds standing = step_stands state h grounds standing
 kind_stands state h kinds.Order grounds standing = ordered_stands state h (raised_of state h) refl grounds standing
@@ -57,7 +58,8 @@ fresh : (program : Program) (config : Config) (h : ℕ) → IsFresh (hart_of (be
 unfolding begin
 fresh program config h =
     all_first IsFresh program.harts (new_hart config.sets) (new_hart 0)
-    (record { mail = refl; told = refl; upstream = refl; raised = refl }) (record { mail = refl; told = refl; upstream = refl; raised = refl }) h
+    (record { mail = refl; told = refl; upstream = refl; raised = refl })
+    (record { mail = refl; told = refl; upstream = refl; raised = refl }) h
 
 unlinked : {X : Type 0} (hart : Hart) (before : ℕ) → IsFresh hart → IsLinked hart before → X
 unlinked hart before fresh (inl sent) =
@@ -100,8 +102,10 @@ first_holds program config mode = record {
   };
 }
 
-pub always_holds : (program : Program) (config : Config) (events : List Event) → config.mode ≡ Tlr → Holding (after program config events)
-always_holds program config events mode = kept_after Holding next_holds (begin program config) events (first_holds program config mode)
+pub always_holds : (program : Program) (config : Config) (events : List Event) → config.mode ≡ Tlr →
+    Holding (after program config events)
+always_holds program config events mode =
+    kept_after Holding next_holds (begin program config) events (first_holds program config mode)
 
 pub facts_hold_throughout : FactsHoldThroughout
 facts_hold_throughout program config events mode =

@@ -11,14 +11,17 @@ dropped_absent : (set : List Way) (line : ℕ) → way_in set line ≡ None → 
 dropped_absent [] line absent = refl
 dropped_absent (way ∷ ways) line absent = by (way.line == line) absent (λ none. dropped_absent ways line none)
   where
-    by : (same : Bool) → (if same then Some way else way_in ways line) ≡ None → (way_in ways line ≡ None → dropped ways line ≡ ways) →
+    by : (same : Bool) → (if same then Some way else way_in ways line) ≡ None →
+        (way_in ways line ≡ None → dropped ways line ≡ ways) →
         (if same then dropped ways line else way ∷ dropped ways line) ≡ way ∷ ways
     by true none others = some_none none
     by false none others = ap (λ rest. way ∷ rest) (others none)
 
-changed_absent : (change : Way → Way) (set : List Way) (line : ℕ) → way_in set line ≡ None → changed_in change set line ≡ set
+changed_absent : (change : Way → Way) (set : List Way) (line : ℕ) → way_in set line ≡ None →
+    changed_in change set line ≡ set
 changed_absent change [] line absent = refl
-changed_absent change (way ∷ ways) line absent = by (way.line == line) absent (λ none. changed_absent change ways line none)
+changed_absent change (way ∷ ways) line absent =
+    by (way.line == line) absent (λ none. changed_absent change ways line none)
   where
     by : (same : Bool) → (if same then Some way else way_in ways line) ≡ None →
         (way_in ways line ≡ None → changed_in change ways line ≡ ways) →
@@ -26,7 +29,8 @@ changed_absent change (way ∷ ways) line absent = by (way.line == line) absent 
     by true none others = some_none none
     by false none others = ap (λ rest. way ∷ rest) (others none)
 
-pub without_absent : (cache : List (List Way)) (line : ℕ) → is_resident cache line ≡ false → without_line cache line ≡ cache
+pub without_absent : (cache : List (List Way)) (line : ℕ) → is_resident cache line ≡ false →
+    without_line cache line ≡ cache
 without_absent cache line absent =
     rw (dropped_absent (set_of cache line) line (none_from (way_of cache line) absent))
     (set-get_or cache (set_number cache line) [])

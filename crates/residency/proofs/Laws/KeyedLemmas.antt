@@ -1,6 +1,7 @@
 -- Lists whose elements have a key: what is found under a key, and what stays after elements are taken out or changed.
 use Rattle.residency.specs.Keyed.{changed, changed_at, count_of, found, fronted, without}
-use Rattle.std.proofs.Common.{◌≡◌, ◌≢◌, ℕ, zero, suc, ◌+◌, ◌≤◌, ◌<◌, cond, eqb, List, [], ◌∷◌, length, map, get_or, Option, None, Some, option_map, is_some}
+use Rattle.std.proofs.Common.{◌≡◌, ◌≢◌, ℕ, zero, suc, ◌+◌, ◌≤◌, ◌<◌, cond, eqb, List, [], ◌∷◌, length, map, get_or}
+use Rattle.std.proofs.Common.{Option, None, Some, option_map, is_some}
 use Rattle.std.proofs.Common.{refl, ap, sym, ◌∙◌, inl, inr, arith}
 use Rattle.std.specs.Option.{option_map_or}
 use Rattle.std.proofs.lemmas.Bool.{cases_eq, cases_lt}
@@ -71,8 +72,8 @@ module _ {X : Type 0} (key : X → ℕ) where
       found_at xs k i d (grind (arith, nat_tests, sum_by-cons (λ y. cond (eqb (key y) k) 1 0) x xs)) inside is in
       grind (arith, nat_tests, sum_by-cons (λ y. cond (eqb (key y) k) 1 0) x xs)
 
-  pub remove-without : (xs : List X) (k i : ℕ) (d : X) → count_of key xs k ≤ 1 → i < length xs → key (get_or xs i d) ≡ k →
-      remove xs i ≡ without key xs k
+  pub remove-without : (xs : List X) (k i : ℕ) (d : X) → count_of key xs k ≤ 1 → i < length xs →
+      key (get_or xs i d) ≡ k → remove xs i ≡ without key xs k
   remove-without [] k i d once within is = absurd (omega arith)
   remove-without (x ∷ xs) k zero d once within is =
       let absent : found key xs k ≡ None =
@@ -100,7 +101,8 @@ module _ {X : Type 0} (key : X → ℕ) where
       let inside : i < length xs = omega arith in
       let counted : 1 ≤ count_of key xs k = counted_at xs k i d inside is in
       let rest : set xs i (change (get_or xs i d)) ≡ changed key change xs k =
-      set-changed change xs k i d (grind (arith, nat_tests, sum_by-cons (λ y. cond (eqb (key y) k) 1 0) x xs)) inside is in
+      set-changed change xs k i d (grind (arith, nat_tests, sum_by-cons (λ y. cond (eqb (key y) k) 1 0) x xs)) inside
+      is in
       grind (arith, nat_tests, sum_by-cons (λ y. cond (eqb (key y) k) 1 0) x xs)
 
   -- a sum over the list without an element, and with it changed, where its key is there once
@@ -119,7 +121,8 @@ module _ {X : Type 0} (key : X → ℕ) where
       ]
 
   pub sum_by-changed : (f : X → ℕ) (change : X → X) (xs : List X) (k : ℕ) → count_of key xs k ≤ 1 →
-      sum_by f (changed key change xs k) + option_map_or f (found key xs k) 0 ≡ sum_by f xs + option_map_or (λ x. f (change x)) (found key xs k) 0
+      sum_by f (changed key change xs k) + option_map_or f (found key xs k) 0
+      ≡ sum_by f xs + option_map_or (λ x. f (change x)) (found key xs k) 0
   sum_by-changed f change [] k once = refl
   sum_by-changed f change (x ∷ xs) k once =
       let counts = sum_by-cons (λ y. cond (eqb (key y) k) 1 0) x xs in
@@ -143,12 +146,18 @@ module _ {X : Type 0} (key : X → ℕ) where
       f x + f y ≤ sum_by f xs
   two_found f xs k j x y once other first second =
       let there : option_map_or f (found key xs k) 0 ≡ f x = ap (λ w. option_map_or f w 0) first in
-      omega (arith, there, sum_by-without f xs k once, found-le-sum_by f (without key xs k) j y (found-without_other xs k j other ∙ second))
+      omega (
+        arith,
+        there,
+        sum_by-without f xs k once,
+        found-le-sum_by f (without key xs k) j y (found-without_other xs k j other ∙ second),
+      )
 
   -- where the position of a key is
   pub position-found : (xs : List X) (k : ℕ) → position (λ x. eqb (key x) k) xs ≡ None → found key xs k ≡ None
   position-found xs k none =
-      find_at (λ x. eqb (key x) k) xs ∙ slice_get_past xs (position_or_len (λ x. eqb (key x) k) xs) (grind (arith, nat_tests))
+      find_at (λ x. eqb (key x) k) xs ∙ slice_get_past xs (position_or_len (λ x. eqb (key x) k) xs)
+      (grind (arith, nat_tests))
 
   pub position-some : (xs : List X) (k : ℕ) → is_some (position (λ x. eqb (key x) k) xs) ≡ is_some (found key xs k)
   position-some [] k = refl
@@ -162,8 +171,10 @@ module _ {X : Type 0} (key : X → ℕ) where
         | inr past ↦ grind (arith, nat_tests, here, slice_get_past ys n past)
       ]
 
-  pub position-key : (xs : List X) (k i : ℕ) (d : X) → position (λ x. eqb (key x) k) xs ≡ Some i → (i < length xs) × (key (get_or xs i d) ≡ k)
-  position-key xs k i d is = let at = position-Some (λ x. eqb (key x) k) xs i d is in (at.0, eqb-true (key (get_or xs i d)) k at.1)
+  pub position-key : (xs : List X) (k i : ℕ) (d : X) → position (λ x. eqb (key x) k) xs ≡ Some i →
+      (i < length xs) × (key (get_or xs i d) ≡ k)
+  position-key xs k i d is = let at = position-Some (λ x. eqb (key x) k) xs i d is in
+      (at.0, eqb-true (key (get_or xs i d)) k at.1)
 
   -- the list after the element at a position came to its front
   pub fronted_at : (xs : List X) (k i : ℕ) (d : X) → count_of key xs k ≤ 1 → position (λ x. eqb (key x) k) xs ≡ Some i →
@@ -173,22 +184,24 @@ module _ {X : Type 0} (key : X → ℕ) where
       rw (found_at xs k i d once at.0 at.1, remove-without xs k i d once at.0 at.1) refl
 
   -- what was read at a position
-  pub found_read : (xs : List X) (k i : ℕ) (x : X) → position (λ x. eqb (key x) k) xs ≡ Some i → x ≡ get_or xs i x → found key xs k ≡ Some x
+  pub found_read : (xs : List X) (k i : ℕ) (x : X) → position (λ x. eqb (key x) k) xs ≡ Some i → x ≡ get_or xs i x →
+      found key xs k ≡ Some x
   found_read xs k i x is read =
       let at = position-key xs k i x is in
       let place : position_or_len (λ x. eqb (key x) k) xs ≡ i = grind (arith, nat_tests) in
       find_at (λ x. eqb (key x) k) xs ∙ ap (slice_get xs) place ∙ slice_get_read xs (length xs) i x refl at.0 read
 
   -- what brings an element to the front, of whatever stands behind the list's end
-  pub fronted_from : (xs ys new : List X) (k i : ℕ) → count_of key xs k ≤ 1 → position (λ x. eqb (key x) k) xs ≡ Some i → ys ≡ xs →
-      ((d : X) → new ≡ get_or ys i d ∷ remove ys i) → new ≡ fronted key xs k
+  pub fronted_from : (xs ys new : List X) (k i : ℕ) → count_of key xs k ≤ 1 →
+      position (λ x. eqb (key x) k) xs ≡ Some i → ys ≡ xs → ((d : X) → new ≡ get_or ys i d ∷ remove ys i) →
+      new ≡ fronted key xs k
   fronted_from [] ys new k i once is same front = absurd cc
   fronted_from (x ∷ xs) ys new k i once is same front =
       front x ∙ ap (λ zs. get_or zs i x ∷ remove zs i) same ∙ sym (fronted_at (x ∷ xs) k i x once is)
 
   -- the list after what was read at a position was changed there
-  pub changed_read : (change : X → X) (xs : List X) (k i : ℕ) (x : X) → count_of key xs k ≤ 1 → position (λ x. eqb (key x) k) xs ≡ Some i →
-      x ≡ get_or xs i x → set xs i (change x) ≡ changed key change xs k
+  pub changed_read : (change : X → X) (xs : List X) (k i : ℕ) (x : X) → count_of key xs k ≤ 1 →
+      position (λ x. eqb (key x) k) xs ≡ Some i → x ≡ get_or xs i x → set xs i (change x) ≡ changed key change xs k
   changed_read change xs k i x once is read =
       let at = position-key xs k i x is in
       ap (λ y. set xs i (change y)) read ∙ set-changed change xs k i x once at.0 at.1
@@ -199,14 +212,17 @@ module _ {X : Type 0} (key : X → ℕ) where
   pub found-fronted : (xs : List X) (k j : ℕ) → found key (fronted key xs k) j ≡ found key xs j
   found-fronted xs k j = found-to_front (found key xs k) refl
     where
-      found-to_front : (way : Option X) → found key xs k ≡ way → found key (option_map_or (λ x. x ∷ without key xs k) way xs) j ≡ found key xs j
+      found-to_front : (way : Option X) → found key xs k ≡ way →
+          found key (option_map_or (λ x. x ∷ without key xs k) way xs) j ≡ found key xs j
       found-to_front None is = refl
       found-to_front (Some x) is = grind (arith, nat_tests, found-key xs k x is, found-without_other xs k j)
 
-  pub sum_by-fronted : (f : X → ℕ) (xs : List X) (k : ℕ) → count_of key xs k ≤ 1 → sum_by f (fronted key xs k) ≡ sum_by f xs
+  pub sum_by-fronted : (f : X → ℕ) (xs : List X) (k : ℕ) → count_of key xs k ≤ 1 →
+      sum_by f (fronted key xs k) ≡ sum_by f xs
   sum_by-fronted f xs k once = sum_by-to_front (found key xs k) refl
     where
-      sum_by-to_front : (way : Option X) → found key xs k ≡ way → sum_by f (option_map_or (λ x. x ∷ without key xs k) way xs) ≡ sum_by f xs
+      sum_by-to_front : (way : Option X) → found key xs k ≡ way →
+          sum_by f (option_map_or (λ x. x ∷ without key xs k) way xs) ≡ sum_by f xs
       sum_by-to_front None is = refl
       sum_by-to_front (Some x) is =
           let rest = sum_by-without f xs k once in
@@ -225,7 +241,8 @@ length-sum_by [] = refl
 length-sum_by (x ∷ xs) = grind (arith, sum_by-cons (λ y. 1) x xs, length-sum_by xs)
 
 -- the same after each element was shown as another that has its key
-module _ {X Y : Type 0} (key : X → ℕ) (shown_key : Y → ℕ) (show : X → Y) (same : (x : X) → shown_key (show x) ≡ key x) where
+module _ {X Y : Type 0} (key : X → ℕ) (shown_key : Y → ℕ) (show : X → Y)
+    (same : (x : X) → shown_key (show x) ≡ key x) where
   pub found-map : (xs : List X) (k : ℕ) → found shown_key (map show xs) k ≡ option_map show (found key xs k)
   found-map [] k = refl
   found-map (x ∷ xs) k = grind (arith, nat_tests, same x, found-map xs k)

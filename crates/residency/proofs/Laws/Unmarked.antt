@@ -1,12 +1,16 @@
--- A cache without bits gets none but by a mark: what is touched, changes its letter, comes or leaves has none after it either.
-use Rattle.std.proofs.Common.{◌≡◌, ℕ, zero, suc, Bool, true, false, List, [], ◌∷◌, Option, None, Some, refl, if◌then◌else◌, ◌==◌}
+-- A cache without bits gets none but by a mark: what is touched, changes its letter, comes or
+-- leaves has none after it either.
+use Rattle.std.proofs.Common.{◌≡◌, ℕ, zero, suc, Bool, true, false, List, [], ◌∷◌, Option, None, Some, refl}
+use Rattle.std.proofs.Common.{if◌then◌else◌, ◌==◌}
 use Rattle.std.specs.List.{list_any}
 use Rattle.std.specs.Prelude.{map, slice_index_or, slice_set}
 use Rattle.std.proofs.lemmas.Bool.{or_from}
 use Rattle.moesi.specs.declared.letter.Letter.{Letter}
-use Rattle.residency.specs.Residency.{Way, changed_in, dropped, evicted_in, filled_in, is_marked, left_in, to_front, touched_in, way_in, with_letter}
+use Rattle.residency.specs.Residency.{Way, changed_in, dropped, evicted_in, filled_in, is_marked, left_in, to_front}
+use Rattle.residency.specs.Residency.{touched_in, way_in, with_letter}
 use Rattle.residency.specs.Residency.{without_bits}
-use Rattle.residency.specs.Cache.{cleared, empty_cache, filled_with, has_marks, lettered, set_number, set_of, touched, without_line}
+use Rattle.residency.specs.Cache.{cleared, empty_cache, filled_with, has_marks, lettered, set_number, set_of, touched}
+use Rattle.residency.specs.Cache.{without_line}
 use Rattle.el_base.proofs.Laws.Tests.{first_not, second_not}
 
 abbrev pub IsBare : List Way → Type 0
@@ -37,14 +41,16 @@ bare_dropped (way ∷ ways) line bare =
     chosen IsBare (way.line == line) (dropped ways line) (way ∷ dropped ways line) others
     (bare_cons way (dropped ways line) (first_not _ _ bare) others)
 
-bare_to_front : (set : List Way) (line : ℕ) (found : Option Way) → IsBareWay found → IsBare set → IsBare (to_front set line found)
+bare_to_front : (set : List Way) (line : ℕ) (found : Option Way) → IsBareWay found → IsBare set →
+    IsBare (to_front set line found)
 bare_to_front set line None none bare = bare
 bare_to_front set line (Some way) none bare = bare_cons way (dropped set line) none (bare_dropped set line bare)
 
 bare_touched_in : (set : List Way) (line : ℕ) → IsBare set → IsBare (touched_in set line)
 bare_touched_in set line bare = bare_to_front set line (way_in set line) (bare_way_in set line bare) bare
 
-bare_lettered_in : (letter : Letter) (set : List Way) (line : ℕ) → IsBare set → IsBare (changed_in (with_letter letter) set line)
+bare_lettered_in : (letter : Letter) (set : List Way) (line : ℕ) → IsBare set →
+    IsBare (changed_in (with_letter letter) set line)
 bare_lettered_in letter [] line bare = refl
 bare_lettered_in letter (way ∷ ways) line bare =
     let rest = changed_in (with_letter letter) ways line in
@@ -57,7 +63,8 @@ bare_left : (set : List Way) (victim : Option Way) → IsBare set → IsBare (le
 bare_left set None bare = bare
 bare_left set (Some way) bare = bare_dropped set way.line bare
 
-bare_filled_in : (ways : ℕ) (set : List Way) (way : Way) → is_marked way ≡ false → IsBare set → IsBare (filled_in ways set way)
+bare_filled_in : (ways : ℕ) (set : List Way) (way : Way) → is_marked way ≡ false → IsBare set →
+    IsBare (filled_in ways set way)
 bare_filled_in ways set way none bare =
     bare_cons way (left_in set (evicted_in ways set)) none (bare_left set (evicted_in ways set) bare)
 
@@ -75,9 +82,11 @@ bare_set (first ∷ sets) (suc place) set new bare =
     or_from _ _ (first_not (list_any is_marked first) _ bare)
     (bare_set sets place set new (second_not (list_any is_marked first) _ bare))
 
-pub unmarked-touched : (cache : List (List Way)) (line : ℕ) → has_marks cache ≡ false → has_marks (touched cache line) ≡ false
+pub unmarked-touched : (cache : List (List Way)) (line : ℕ) → has_marks cache ≡ false →
+    has_marks (touched cache line) ≡ false
 unmarked-touched cache line bare =
-    bare_set cache (set_number cache line) _ (bare_touched_in (set_of cache line) line (bare_at cache (set_number cache line) bare)) bare
+    bare_set cache (set_number cache line) _
+    (bare_touched_in (set_of cache line) line (bare_at cache (set_number cache line) bare)) bare
 
 pub unmarked-lettered : (cache : List (List Way)) (line : ℕ) (letter : Letter) → has_marks cache ≡ false →
     has_marks (lettered cache line letter) ≡ false
@@ -85,9 +94,11 @@ unmarked-lettered cache line letter bare =
     bare_set cache (set_number cache line) _
     (bare_lettered_in letter (set_of cache line) line (bare_at cache (set_number cache line) bare)) bare
 
-pub unmarked-without_line : (cache : List (List Way)) (line : ℕ) → has_marks cache ≡ false → has_marks (without_line cache line) ≡ false
+pub unmarked-without_line : (cache : List (List Way)) (line : ℕ) → has_marks cache ≡ false →
+    has_marks (without_line cache line) ≡ false
 unmarked-without_line cache line bare =
-    bare_set cache (set_number cache line) _ (bare_dropped (set_of cache line) line (bare_at cache (set_number cache line) bare)) bare
+    bare_set cache (set_number cache line) _
+    (bare_dropped (set_of cache line) line (bare_at cache (set_number cache line) bare)) bare
 
 pub unmarked-filled_with : (ways : ℕ) (cache : List (List Way)) (line : ℕ) (letter : Letter) → has_marks cache ≡ false →
     has_marks (filled_with ways cache line letter) ≡ false

@@ -1,5 +1,6 @@
 -- A run of a program reaches states whose trapped harts stand at their traps, and whose output is within its limit.
-use Rattle.std.proofs.Common.{◌≡◌, ◌≢◌, ℕ, ◌-◌, ◌≤◌, ◌<◌, List, [], ◌∷◌, length, drop, Option, Some, None, refl, arith, inl, inr, ◌⊎◌}
+use Rattle.std.proofs.Common.{◌≡◌, ◌≢◌, ℕ, ◌-◌, ◌≤◌, ◌<◌, List, [], ◌∷◌, length, drop, Option, Some, None, refl, arith}
+use Rattle.std.proofs.Common.{inl, inr, ◌⊎◌}
 use Rattle.std.specs.Prelude.{IfSome}
 use Rattle.std.proofs.lemmas.Bool.{cases_eq}
 use Rattle.std.proofs.lemmas.List.{length-append, length-take}
@@ -19,7 +20,8 @@ use Rattle.rv_alu.specs.declared.view.HartStatus.TheVariants.{Running, Exited, T
 use Rattle.rv_alu.specs.declared.view.HartView.{HartView}
 use Rattle.rv_word.specs.Decoding.{decoded}
 use Rattle.rv_word.specs.declared.insn.Insn.{Insn}
-use Rattle.rv_flat.specs.FlatState.{FlatState, first_view, no_hart, output_limit, room_of, span_of, start, status_of, view_of}
+use Rattle.rv_flat.specs.FlatState.{FlatState, first_view, no_hart, output_limit, room_of, span_of, start, status_of}
+use Rattle.rv_flat.specs.FlatState.{view_of}
 use Rattle.rv_flat.specs.Laws.{footprint_of, seen_after}
 use Rattle.rv_flat.specs.Memory.{byte_in, piece_of}
 use Rattle.rv_flat.specs.Run.{run}

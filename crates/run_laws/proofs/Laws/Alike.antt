@@ -26,7 +26,8 @@ pub record SamePlaces (left right : FlatState) : Type 0 where
   pub code : right.code ≡ left.code
   pub size : length right.bytes ≡ length left.bytes
 
-pub same_places_flat : (left right : FlatState) (h : ℕ) → SamePlaces left right → SamePlaces (flat left h) (flat right h)
+pub same_places_flat : (left right : FlatState) (h : ℕ) → SamePlaces left right →
+    SamePlaces (flat left h) (flat right h)
 same_places_flat left right h same =
     let l = keeps_shape left h in
     let r = keeps_shape right h in
@@ -57,21 +58,25 @@ pub same_access : (left right : FlatState) (h : ℕ) → SamePlaces left right �
 same_access left right h same view none =
     let word = code_word left.code (view_of left h).pc in
     ap (λ view. touched (code_word right.code view.pc) view (span_of right) (room_of right)) view
-    ∙ ap (λ code. touched (code_word code (view_of left h).pc) (view_of left h) (span_of right) (room_of right)) same.code
+    ∙ ap (λ code. touched (code_word code (view_of left h).pc) (view_of left h) (span_of right) (room_of right))
+    same.code
     ∙ ap (λ span. touched word (view_of left h) span (room_of right)) (same_span left right same)
-    ∙ touched-room (insn_at word) (view_of left h) (span_of left) (room_of right) (room_of left) (no_call (insn_at word) none)
+    ∙ touched-room (insn_at word) (view_of left h) (span_of left) (room_of right) (room_of left)
+    (no_call (insn_at word) none)
 
 -- and does the same, where what it touches is on a line with a bit
-pub same_execution : (left right : FlatState) (h : ℕ) (cache : List (List Way)) → SamePlaces left right → view_of right h ≡ view_of left h →
-    SameOnBits cache left right → calls (next_insn left h) ≡ false → IsOnBit cache (next_touch left h) →
-    next_execution right h ≡ next_execution left h
+pub same_execution : (left right : FlatState) (h : ℕ) (cache : List (List Way)) → SamePlaces left right →
+    view_of right h ≡ view_of left h → SameOnBits cache left right → calls (next_insn left h) ≡ false →
+    IsOnBit cache (next_touch left h) → next_execution right h ≡ next_execution left h
 same_execution left right h cache same view bytes none bit =
     let word = code_word left.code (view_of left h).pc in
     let byte = byte_in right.base right.bytes in
     ap (λ view. executed (code_word right.code view.pc) view (span_of right) (room_of right) byte) view
-    ∙ ap (λ code. executed (code_word code (view_of left h).pc) (view_of left h) (span_of right) (room_of right) byte) same.code
+    ∙ ap (λ code. executed (code_word code (view_of left h).pc) (view_of left h) (span_of right) (room_of right) byte)
+    same.code
     ∙ ap (λ span. executed word (view_of left h) span (room_of right) byte) (same_span left right same)
-    ∙ executed-room word (view_of left h) (span_of left) (room_of right) (room_of left) byte (no_call (insn_at word) none)
+    ∙ executed-room word (view_of left h) (span_of left) (room_of right) (room_of left) byte
+    (no_call (insn_at word) none)
     ∙ executed_agree word (view_of left h) (span_of left) (room_of left) byte (byte_in left.base left.bytes)
     (agree_there left right h cache same.base bytes bit)
 
@@ -90,8 +95,8 @@ pub record DidAlike (h : ℕ) (left right left_after right_after : FlatState) : 
   pub bytes : (place : ℕ) → slice_index right.bytes place ≡ slice_index left.bytes place →
       slice_index right_after.bytes place ≡ slice_index left_after.bytes place
 
-pub did_alike : (left right : FlatState) (h : ℕ) → SamePlaces left right → status_of left h ≡ Running → status_of right h ≡ Running →
-    next_execution right h ≡ next_execution left h →
+pub did_alike : (left right : FlatState) (h : ℕ) → SamePlaces left right → status_of left h ≡ Running →
+    status_of right h ≡ Running → next_execution right h ≡ next_execution left h →
     view_after (next_execution left h) (view_of right h) ≡ view_after (next_execution left h) (view_of left h) →
     DidAlike h left right (flat left h) (flat right h)
 did_alike left right h same left_runs right_runs does view = record {
@@ -130,7 +135,8 @@ pub alike_more : (h n : ℕ) (old new : FlatState) → AlikeAt h old new n → D
 alike_more h n old new since same =
     let left = alone old h n in
     let right = alone new h n in
-    let did = did_alike left right h since.places same.runs (ap (λ view. view.status) since.view ∙ same.runs) same.execution
+    let did =
+    did_alike left right h since.places same.runs (ap (λ view. view.status) since.view ∙ same.runs) same.execution
     (ap (view_after (next_execution left h)) since.view) in
     rw (alone_more old h n, alone_more new h n)
     (record { places = did.places; view = did.view; bytes = λ place is. did.bytes place (since.bytes place is) })
@@ -143,7 +149,8 @@ module _ (h first last : ℕ) (old new : FlatState) (begins : AlikeAt h old new 
   alike_after (suc k) n is within =
       let one_more : n ≡ first + k + 1 = omega (arith, is) in
       let before = alike_after k (first + k) refl (omega (arith, is, within)) in
-      rw one_more (alike_more h (first + k) old new before (goes (first + k) (omega arith) (omega (arith, is, within)) before))
+      rw one_more
+      (alike_more h (first + k) old new before (goes (first + k) (omega arith) (omega (arith, is, within)) before))
 
   pub alike_runs : (n : ℕ) → first ≤ n → n ≤ last → AlikeAt h old new n
   alike_runs n some within = alike_after (n - first) n (omega (arith, some)) within

@@ -26,7 +26,8 @@ use Rattle.el_base.proofs.Laws.Tests.{first_not}
 pub same_but_views : (state : FlatState) → KeepsAllButViews state state
 same_but_views state = record { base = refl; bytes = refl; code = refl; output = refl; harts = refl }
 
-pub but_views_twice : (one two three : FlatState) → KeepsAllButViews one two → KeepsAllButViews two three → KeepsAllButViews one three
+pub but_views_twice : (one two three : FlatState) → KeepsAllButViews one two → KeepsAllButViews two three →
+    KeepsAllButViews one three
 but_views_twice one two three first second = record {
   base = second.base ∙ first.base;
   bytes = second.bytes ∙ first.bytes;
@@ -38,7 +39,8 @@ but_views_twice one two three first second = record {
 pub same_but_a_view : (h : ℕ) (state : FlatState) → KeepsAllButAView h state state
 same_but_a_view h state = record { rest = same_but_views state; others = λ g apart. refl }
 
-but_a_view_twice : (h : ℕ) (one two three : FlatState) → KeepsAllButAView h one two → KeepsAllButAView h two three → KeepsAllButAView h one three
+but_a_view_twice : (h : ℕ) (one two three : FlatState) → KeepsAllButAView h one two → KeepsAllButAView h two three →
+    KeepsAllButAView h one three
 but_a_view_twice h one two three first second = record {
   rest = but_views_twice one two three first.rest second.rest;
   others = λ g apart. second.others g apart ∙ first.others g apart;
@@ -53,15 +55,18 @@ unseen (Trap cause) view none = refl
 unseen (Exit code) view none = refl
 
 -- one that makes no call appends nothing
-same_output : (state : FlatState) (h : ℕ) → status_of state h ≡ Running → calls (next_insn state h) ≡ false → (flat state h).output ≡ state.output
+same_output : (state : FlatState) (h : ℕ) → status_of state h ≡ Running → calls (next_insn state h) ≡ false →
+    (flat state h).output ≡ state.output
 same_output state h runs none =
     let view = view_of state h in
     ap (λ new. new.output) (running state h runs)
     ∙ ap (λ append. appended_by append state.base state.bytes state.output)
-    (executed-append (code_word state.code view.pc) view (span_of state) (room_of state) (byte_in state.base state.bytes)
+    (executed-append (code_word state.code view.pc) view (span_of state) (room_of state)
+    (byte_in state.base state.bytes)
     (no_call (next_insn state h) none))
 
-step_keeps : (state : FlatState) (h : ℕ) → status_of state h ≡ Running → IsSilent state h → KeepsAllButAView h state (flat state h)
+step_keeps : (state : FlatState) (h : ℕ) → status_of state h ≡ Running → IsSilent state h →
+    KeepsAllButAView h state (flat state h)
 step_keeps state h runs silent = record {
   rest = record {
     base = (keeps_shape state h).base;
@@ -75,15 +80,18 @@ step_keeps state h runs silent = record {
       ∙ unseen _ (view_of state g) silent.writes_none;
 }
 
-module _ (committed : FlatState) (h : ℕ) (cache : List (List Way)) (armed : Armed) (run : IsArmedRun committed h cache armed) where
+module _ (committed : FlatState) (h : ℕ) (cache : List (List Way)) (armed : Armed)
+    (run : IsArmedRun committed h cache armed) where
   pub armed_keeps : (n : ℕ) → n ≤ armed.count → KeepsAllButAView h committed (alone committed h n)
   armed_keeps zero within = same_but_a_view h committed
   armed_keeps (suc n) within =
       let next : suc n ≡ n + 1 = omega arith in
       subst (KeepsAllButAView h committed) (sym (ap (alone committed h) next ∙ alone_more committed h n))
-      (but_a_view_twice h committed (alone committed h n) (flat (alone committed h n) h) (armed_keeps n (omega (arith, within)))
+      (but_a_view_twice h committed (alone committed h n) (flat (alone committed h n) h)
+      (armed_keeps n (omega (arith, within)))
       (step_keeps (alone committed h n) h (run.running n (omega (arith, within)))
       (silent_at committed h cache armed run n (omega (arith, within)))))
 
 pub armed_runs_keep_all_but_a_view : ArmedRunsKeepAllButAView
-armed_runs_keep_all_but_a_view committed h cache armed run = armed_keeps committed h cache armed run armed.count (omega arith)
+armed_runs_keep_all_but_a_view committed h cache armed run =
+    armed_keeps committed h cache armed run armed.count (omega arith)

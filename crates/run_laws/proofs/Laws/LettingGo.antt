@@ -1,5 +1,6 @@
 -- what an event of the bus changes beside a hart: nothing, where it lets the hart not go
-use Rattle.std.proofs.Common.{◌≡◌, ◌≢◌, ◌∙◌, ◌≤◌, ◌+◌, ◌-◌, ◌⊎◌, ℕ, zero, suc, Bool, true, false, List, Option, None, Some, is_some, replicate, refl, ap}
+use Rattle.std.proofs.Common.{◌≡◌, ◌≢◌, ◌∙◌, ◌≤◌, ◌+◌, ◌-◌, ◌⊎◌, ℕ, zero, suc, Bool, true, false, List, Option, None}
+use Rattle.std.proofs.Common.{Some, is_some, replicate, refl, ap}
 use Rattle.std.proofs.Common.{sym, subst, arith, inl, inr}
 use Rattle.std.specs.Prelude.{nat_lt}
 use Rattle.std.proofs.lemmas.Bool.{ltb-false, ltb-true}
@@ -54,14 +55,16 @@ module _ (committed : FlatState) (caches : ℕ → List (List Way)) (freed : Fre
 
   apart_from : (n g : ℕ) → (suc n ≤ g) ⊎ (count_in freed g ≡ 0) → 1 ≤ count_in freed n → g ≢ n
   apart_from n g (inl later) some same = absurd (omega (arith, later, same))
-  apart_from n g (inr none) some same = let is : count_in freed n ≡ 0 = ap (count_in freed) (sym same) ∙ none in absurd (omega (arith, is, some))
+  apart_from n g (inr none) some same = let is : count_in freed n ≡ 0 = ap (count_in freed) (sym same) ∙ none in
+      absurd (omega (arith, is, some))
 
   earlier : (n g : ℕ) → (suc n ≤ g) ⊎ (count_in freed g ≡ 0) → (n ≤ g) ⊎ (count_in freed g ≡ 0)
   earlier n g (inl later) = inl (omega (arith, later))
   earlier n g (inr none) = inr none
 
-  next_beside : (n g : ℕ) → (suc n ≤ g) ⊎ (count_in freed g ≡ 0) → IsChangeBeside n (caches n) committed (after_below n) →
-      (count : ℕ) → count_in freed n ≡ count → IsChangeBeside g (caches g) (after_below n) (alone (after_below n) n count)
+  next_beside : (n g : ℕ) → (suc n ≤ g) ⊎ (count_in freed g ≡ 0) →
+      IsChangeBeside n (caches n) committed (after_below n) → (count : ℕ) → count_in freed n ≡ count →
+      IsChangeBeside g (caches g) (after_below n) (alone (after_below n) n count)
   next_beside n g spared own zero is = same_beside g (caches g) (after_below n)
   next_beside n g spared own (suc k) is =
       let some : 1 ≤ count_in freed n = omega (arith, is) in
@@ -74,11 +77,13 @@ module _ (committed : FlatState) (caches : ℕ → List (List Way)) (freed : Fre
   below_beside zero g spared = same_beside g (caches g) committed
   below_beside (suc n) g spared =
       subst (IsChangeBeside g (caches g) committed) (sym (one_more n))
-      (beside_twice g (caches g) (caches g) committed (after_below n) (alone (after_below n) n (count_in freed n)) (same_bits (caches g))
+      (beside_twice g (caches g) (caches g) committed (after_below n) (alone (after_below n) n (count_in freed n))
+      (same_bits (caches g))
       (below_beside n g (earlier n g spared))
       (next_beside n g spared (below_beside n n (inl (omega arith))) (count_in freed n) refl))
 
-  pub freed_beside : (g : ℕ) → count_in freed g ≡ 0 → IsChangeBeside g (caches g) committed (run committed (order_of freed))
+  pub freed_beside : (g : ℕ) → count_in freed g ≡ 0 →
+      IsChangeBeside g (caches g) committed (run committed (order_of freed))
   unfolding order_of
   freed_beside g none = below_beside 8 g (inr none)
 
@@ -89,7 +94,8 @@ module _ (committed : FlatState) (caches : ℕ → List (List Way)) (freed : Fre
       armed_survives n (caches n) mine.armed committed (after_below n) mine.run (below_beside n n (inl (omega arith)))
 
   -- all but the views of the harts stays
-  next_keeps : (n count : ℕ) → count_in freed n ≡ count → KeepsAllButAView n (after_below n) (alone (after_below n) n count)
+  next_keeps : (n count : ℕ) → count_in freed n ≡ count →
+      KeepsAllButAView n (after_below n) (alone (after_below n) n count)
   next_keeps n zero is = same_but_a_view n (after_below n)
   next_keeps n (suc k) is =
       let some : 1 ≤ count_in freed n = omega (arith, is) in
@@ -125,11 +131,13 @@ module _ (committed : FlatState) (caches : ℕ → List (List Way)) (freed : Fre
   spared_below (suc n) g spared = next_view n g (apart_from n g spared) ∙ spared_below n g (earlier n g spared)
 
   -- and its own becomes that of its private run
-  own_below : (g : ℕ) → 1 ≤ count_in freed g → view_of (after_below (suc g)) g ≡ view_of (alone committed g (count_in freed g)) g
+  own_below : (g : ℕ) → 1 ≤ count_in freed g →
+      view_of (after_below (suc g)) g ≡ view_of (alone committed g (count_in freed g)) g
   own_below g some =
       let mine = runs g some in
       ap (λ state. view_of state g) (one_more g)
-      ∙ (armed_alike g (caches g) mine.armed committed (after_below g) mine.run (below_beside g g (inl (omega arith))) (count_in freed g) some
+      ∙ (armed_alike g (caches g) mine.armed committed (after_below g) mine.run (below_beside g g (inl (omega arith)))
+      (count_in freed g) some
       mine.within).view
 
   later_below : (k g n : ℕ) → n ≡ suc g + k → 1 ≤ count_in freed g →
@@ -150,12 +158,14 @@ module _ (committed : FlatState) (caches : ℕ → List (List Way)) (freed : Fre
   unfolding order_of
   freed_view g some = by (nat_lt g 8) refl
     where
-      by : (below : Bool) → nat_lt g 8 ≡ below → view_of (after_below 8) g ≡ view_of (alone committed g (count_in freed g)) g
+      by : (below : Bool) → nat_lt g 8 ≡ below →
+          view_of (after_below 8) g ≡ view_of (alone committed g (count_in freed g)) g
       by true is = let below = ltb-true g 8 is in later_below (7 - g) g 8 (omega (arith, below)) some
       by false is = let none = count_in-beyond freed g (ltb-false g 8 is) in absurd (omega (arith, none, some))
 
 -- a hart that is armed in an event of the bus was so before, in the same section
-same_armed : (old : ModelState) → BusKept (λ h hart. (armed : Armed) → hart.armed ≡ Some armed → armed_of old h ≡ Some armed)
+same_armed : (old : ModelState) →
+    BusKept (λ h hart. (armed : Armed) → hart.armed ≡ Some armed → armed_of old h ≡ Some armed)
 same_armed old = record {
   moves = record {
     posted_to = λ h hart mail now. now;
@@ -175,28 +185,32 @@ same_armed old = record {
     none_some : {A X : Type 0} {x : A} → None ≡ Some x → X
     none_some wrong = absurd (cc)
 
-pub was_armed : (state : ModelState) (by : ℕ) (start : Start) (h : ℕ) {lost : Option ℕ} {hart : Hart} → Becomes state by start h lost hart →
-    (armed : Armed) → hart.armed ≡ Some armed → armed_of state h ≡ Some armed
+pub was_armed : (state : ModelState) (by : ℕ) (start : Start) (h : ℕ) {lost : Option ℕ} {hart : Hart} →
+    Becomes state by start h lost hart → (armed : Armed) → hart.armed ≡ Some armed → armed_of state h ≡ Some armed
 was_armed state by start h becomes = becomes_keeps (same_armed state) state by start h (λ armed is. is) becomes
 
-some_armed : (state : ModelState) (by : ℕ) (start : Start) (h : ℕ) {lost : Option ℕ} {hart : Hart} → Becomes state by start h lost hart →
-    (found : Option Armed) → hart.armed ≡ found → is_some found ≡ true → is_some (armed_of state h) ≡ true
+some_armed : (state : ModelState) (by : ℕ) (start : Start) (h : ℕ) {lost : Option ℕ} {hart : Hart} →
+    Becomes state by start h lost hart → (found : Option Armed) → hart.armed ≡ found → is_some found ≡ true →
+    is_some (armed_of state h) ≡ true
 some_armed state by start h becomes None is some = absurd (cc)
 some_armed state by start h becomes (Some armed) is some = ap is_some (was_armed state by start h becomes armed is)
 
 pub frees_armed : (state : ModelState) (by : ℕ) (start : Start) (h : ℕ) (head : Request) → Frees state by start h head →
     is_some (armed_of state h) ≡ true
 frees_armed state by start h head frees =
-    some_armed state by start h (met_becomes state by start head frees.head_is h) (hart_of (as_met state by start) h).armed refl
+    some_armed state by start h (met_becomes state by start head frees.head_is h)
+    (hart_of (as_met state by start) h).armed refl
     (freed_is_armed head h (hart_of (as_met state by start) h) frees.freed)
 
 -- what is let go of a hart is of its armed run
 freed_of_armed : (head : Request) (h : ℕ) (hart : Hart) → freed_count head h hart ≤ armed_count hart.armed
 freed_of_armed head h hart =
-    by_test (λ n. n ≤ armed_count hart.armed) (is_freed head h hart) (armed_count hart.armed) 0 (λ freed. omega arith) (λ unfreed. omega arith)
+    by_test (λ n. n ≤ armed_count hart.armed) (is_freed head h hart) (armed_count hart.armed) 0 (λ freed. omega arith)
+    (λ unfreed. omega arith)
 
-has_run : (state : ModelState) (caches : ℕ → List (List Way)) (h n : ℕ) (found : Option Armed) → n ≤ armed_count found → 1 ≤ n →
-    ((armed : Armed) → found ≡ Some armed → IsArmedRun state.committed h (caches h) armed) → HasRun state.committed h (caches h) n
+has_run : (state : ModelState) (caches : ℕ → List (List Way)) (h n : ℕ) (found : Option Armed) → n ≤ armed_count found →
+    1 ≤ n → ((armed : Armed) → found ≡ Some armed → IsArmedRun state.committed h (caches h) armed) →
+    HasRun state.committed h (caches h) n
 has_run state caches h n None most some runs = absurd (omega (arith, most, some))
 has_run state caches h n (Some armed) most some runs = record { armed = armed; run = runs armed refl; within = most }
 
@@ -206,31 +220,38 @@ let_go_runs : (state : ModelState) (head : Request) → AllArmed state → (h : 
 let_go_runs state head all h some =
     let most = freed_at_most state head h in
     let of_armed = freed_of_armed head h (hart_of state h) in
-    has_run state (cache_of state) h (count_in (freed_by state head) h) (armed_of state h) (omega (arith, most, of_armed)) some (all h)
+    has_run state (cache_of state) h (count_in (freed_by state head) h) (armed_of state h)
+    (omega (arith, most, of_armed)) some (all h)
 
-pub let_go_beside : (state : ModelState) (head : Request) (g : ℕ) → AllArmed state → is_freed head g (hart_of state g) ≡ false →
+pub let_go_beside : (state : ModelState) (head : Request) (g : ℕ) → AllArmed state →
+    is_freed head g (hart_of state g) ≡ false →
     IsChangeBeside g (cache_of state g) state.committed (let_go state head).committed
 unfolding let_go
 let_go_beside state head g all unfreed =
-    freed_beside state.committed (cache_of state) (freed_by state head) (let_go_runs state head all) g (unfreed_count state head g unfreed)
+    freed_beside state.committed (cache_of state) (freed_by state head) (let_go_runs state head all) g
+    (unfreed_count state head g unfreed)
 
-pub let_go_memory : (state : ModelState) (head : Request) → AllArmed state → KeepsMemory state.committed (let_go state head).committed
+pub let_go_memory : (state : ModelState) (head : Request) → AllArmed state →
+    KeepsMemory state.committed (let_go state head).committed
 unfolding let_go
-let_go_memory state head all = freed_memory state.committed (cache_of state) (freed_by state head) (let_go_runs state head all)
+let_go_memory state head all =
+    freed_memory state.committed (cache_of state) (freed_by state head) (let_go_runs state head all)
 
 -- and so in an event of the bus
-event_runs : (state : ModelState) (by : ℕ) (start : Start) → AllArmed state → (found : Option Request) → faced_head state start ≡ found →
-    (h : ℕ) → 1 ≤ count_in (freed_if (as_met state by start) found) h →
+event_runs : (state : ModelState) (by : ℕ) (start : Start) → AllArmed state → (found : Option Request) →
+    faced_head state start ≡ found → (h : ℕ) → 1 ≤ count_in (freed_if (as_met state by start) found) h →
     HasRun state.committed h (cache_of state h) (count_in (freed_if (as_met state by start) found) h)
 event_runs state by start all None is h some = let none = none_in_no_one h in absurd (omega (arith, none, some))
 event_runs state by start all (Some head) is h some =
     let mid = as_met state by start in
     let most = freed_at_most mid head h in
     let of_armed = freed_of_armed head h (hart_of mid h) in
-    has_run state (cache_of state) h (count_in (freed_by mid head) h) (hart_of mid h).armed (omega (arith, most, of_armed)) some
+    has_run state (cache_of state) h (count_in (freed_by mid head) h) (hart_of mid h).armed
+    (omega (arith, most, of_armed)) some
     (λ armed there. all h armed (was_armed state by start h (met_becomes state by start head is h) armed there))
 
--- what it leaves of what is committed: all but the views of the harts that it lets go, which come to those of their private runs
+-- what it leaves of what is committed: all but the views of the harts that it lets go, which come
+-- to those of their private runs
 pub record LeavesViews (state : ModelState) (freed : Freed) (new : FlatState) : Type 0 where
   pub keeps : KeepsAllButViews state.committed new
   pub spared : (g : ℕ) → count_in freed g ≡ 0 → view_of new g ≡ view_of state.committed g
@@ -248,8 +269,9 @@ bus_leaves {state} {by} {turn} done all =
       let_go = freed_view state.committed (cache_of state) freed runs;
     })
 
-pub bus_beside : {state : ModelState} {by : ℕ} {turn : Turn} → (done : IsBusEvent state by turn) → AllArmed state → (g : ℕ) →
-    count_in (freed_in state by done.start) g ≡ 0 → IsChangeBeside g (cache_of state g) state.committed turn.state.committed
+pub bus_beside : {state : ModelState} {by : ℕ} {turn : Turn} → (done : IsBusEvent state by turn) → AllArmed state →
+    (g : ℕ) → count_in (freed_in state by done.start) g ≡ 0 →
+    IsChangeBeside g (cache_of state g) state.committed turn.state.committed
 bus_beside {state} {by} {turn} done all g none =
     subst (IsChangeBeside g (cache_of state g) state.committed) (sym done.committed)
     (freed_beside state.committed (cache_of state) (freed_in state by done.start)
@@ -276,13 +298,15 @@ ending_moves state head = record {
   tried = λ h hart more now. now;
 }
 
-met_ends : (state : ModelState) (head : Request) (h : ℕ) → is_freed head h (hart_of state h) ≡ true → (hart_of (met state head) h).armed ≡ None
+met_ends : (state : ModelState) (head : Request) (h : ℕ) → is_freed head h (hart_of state h) ≡ true →
+    (hart_of (met state head) h).armed ≡ None
 unfolding Ending let_go
 met_ends state head =
     faced_keeps (ending_moves state head) (let_go state head) head
     (each_become (Ending state head) state (freed_hart state head)
     (λ h.
-    by_test (Ending state head h) (is_freed head h (hart_of state h)) (let_go_hart (view_of state.committed h).pc (hart_of state h)) (hart_of state h)
+    by_test (Ending state head h) (is_freed head h (hart_of state h))
+    (let_go_hart (view_of state.committed h).pc (hart_of state h)) (hart_of state h)
     (λ freed is. refl) (λ unfreed is. clash unfreed is))
     (λ h past is. ap (λ hart. hart.armed) (hart_of-past state h past)))
 
@@ -297,7 +321,8 @@ spared_or_gone {state} {by} {turn} done g = by_head (faced_head state done.start
     by_test_of head is true freed =
         inr (record {
           was = frees_armed state by done.start g head (record { head_is = is; freed = freed });
-          unarmed = ap (λ new. armed_of new g) (done.faces head is) ∙ met_ends (as_met state by done.start) head g freed;
+          unarmed =
+              ap (λ new. armed_of new g) (done.faces head is) ∙ met_ends (as_met state by done.start) head g freed;
         })
 
     by_head : (found : Option Request) → faced_head state done.start ≡ found →

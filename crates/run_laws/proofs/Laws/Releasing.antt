@@ -19,7 +19,8 @@ use Rattle.run_laws.specs.Laws.{ReleasesCommit, TakesEffect}
 
 -- a hart with a live section runs
 live_runs : (program : Program) (config : Config) (events : List Event) (h : ℕ) (section : Section) →
-    section_of (after program config events) h ≡ Some section → status_of (after program config events).committed h ≡ Running
+    section_of (after program config events) h ≡ Some section →
+    status_of (after program config events).committed h ≡ Running
 live_runs program config events h section live =
     running_status (status_of (after program config events).committed h)
     (λ stopped. some_none (sym live ∙ ((each_hart_waits_for_one program config events h).stopped stopped).no_section))
@@ -44,15 +45,18 @@ commits_next state event section step running free live rule =
     ∙ ap (λ test. if test then stalled state else going_turn state h (section_of state h)) free
     ∙ ap (going_turn state h) live ∙ ap (by_section_rule state h section) rule
 
-takes_effect : (state : ModelState) (event : Event) (section : Section) → next state event ≡ by_section_rule state event.hart.number section Commits →
-    TakesEffect state event section
+takes_effect : (state : ModelState) (event : Event) (section : Section) →
+    next state event ≡ by_section_rule state event.hart.number section Commits → TakesEffect state event section
 unfolding by_section_rule
-takes_effect state event section same = record { outcome = ap (λ turn. turn.outcome) same; committed = ap (λ turn. turn.state.committed) same }
+takes_effect state event section same =
+    record { outcome = ap (λ turn. turn.outcome) same; committed = ap (λ turn. turn.state.committed) same }
 
 pub releases_commit : ReleasesCommit
 releases_commit program config events event section step live free longest release =
     let state = after program config events in
     let h = event.hart.number in
-    let short = ap (λ config. section.count == config.long) (after_config program config events) ∙ other_test section.count config.long longest in
+    let short = ap (λ config. section.count == config.long) (after_config program config events)
+    ∙ other_test section.count config.long longest in
     takes_effect state event section
-    (commits_next state event section step (live_runs program config events h section live) free live (commits_by_rule state h section short release))
+    (commits_next state event section step (live_runs program config events h section live) free live
+    (commits_by_rule state h section short release))

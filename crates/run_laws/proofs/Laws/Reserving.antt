@@ -1,5 +1,7 @@
--- the instructions of an armed section: the LR that reserves its word, what is quiet, and the SC that completes it; none but the SC stores
-use Rattle.std.proofs.Common.{◌≡◌, ◌∙◌, ◌≤◌, ◌<◌, ◌+◌, ◌%◌, ◌&&◌, ◌==◌, ℕ, zero, suc, Bool, true, false, not, List, Option, None, Some, is_some, refl}
+-- the instructions of an armed section: the LR that reserves its word, what is quiet, and the SC that
+-- completes it; none but the SC stores
+use Rattle.std.proofs.Common.{◌≡◌, ◌∙◌, ◌≤◌, ◌<◌, ◌+◌, ◌%◌, ◌&&◌, ◌==◌, ℕ, zero, suc, Bool, true, false, not, List}
+use Rattle.std.proofs.Common.{Option, None, Some, is_some, refl}
 use Rattle.std.proofs.Common.{ap, sym, subst, arith, if◌then◌else◌}
 use Rattle.std.specs.Prelude.{MatchOption}
 use Rattle.std.proofs.lemmas.Option.{same_Some}
@@ -8,7 +10,8 @@ use Rattle.residency.specs.Residency.{Way}
 use Rattle.elf_image.specs.Program.{code_word}
 use Rattle.el_model.specs.Armed.{is_quiet}
 use Rattle.el_model.specs.State.{Armed}
-use Rattle.el_model.specs.Upcoming.{Swap, calls, calls_or_stops, is_load_reserved, is_store_conditional, next_access, next_conditional}
+use Rattle.el_model.specs.Upcoming.{Swap, calls, calls_or_stops, is_load_reserved, is_store_conditional, next_access}
+use Rattle.el_model.specs.Upcoming.{next_conditional}
 use Rattle.el_model.specs.Upcoming.{next_reserved, next_store, next_touch, read_at, stops, swap_of, touch_of}
 use Rattle.rv_alu.specs.Action.{action_at, action_of, checked_of, has_reserved_of}
 use Rattle.rv_alu.specs.Cause.{load_access_fault, load_address_misaligned}
@@ -63,10 +66,12 @@ reserve_insn (Some word) is = by (decoded word) refl is
 checked-read : (span : Span) (address size misaligned outside : ℕ) (action : Action) (from len : ℕ) →
     footprint (checked_of span address size misaligned outside action) ≡ Read from len →
     checked_of span address size misaligned outside action ≡ action
-checked-read span address size misaligned outside action from len = tested (address % size == 0) (holds span address size)
+checked-read span address size misaligned outside action from len =
+    tested (address % size == 0) (holds span address size)
   where
-    tested : (b c : Bool) → footprint (if b then (if c then action else actions.Trap outside) else actions.Trap misaligned) ≡ Read from len →
-        (if b then (if c then action else actions.Trap outside) else actions.Trap misaligned) ≡ action
+    tested : (b c : Bool) →
+        footprint (if b then (if c then action else actions.Trap outside) else actions.Trap misaligned)
+        ≡ Read from len → (if b then (if c then action else actions.Trap outside) else actions.Trap misaligned) ≡ action
     tested true true h = refl
     tested true false h = cc
     tested false c h = cc
@@ -86,17 +91,22 @@ lr-action word rd rs1 aq rl view span room from len is reads =
     (cc, rw is (cc went))
 
 -- so what it touches and what it does do not depend on what the hart had reserved
-pub lr-reserved : (word : ℕ) (rd rs1 : Reg) (aq rl : Bool) (view : HartView) (reserved : Option ℕ) (span : Span) (room from len : ℕ)
+pub lr-reserved : (word : ℕ) (rd rs1 : Reg) (aq rl : Bool) (view : HartView) (reserved : Option ℕ) (span : Span)
+    (room from len : ℕ)
     (byte : ℕ → ℕ) → decoded word ≡ Some (insns.Lr rd rs1 aq rl) → touched (Some word) view span room ≡ Read from len →
     (touched (Some word) (record view { reserved = reserved }) span room ≡ Read from len)
-    × (executed (Some word) (record view { reserved = reserved }) span room byte ≡ executed (Some word) view span room byte)
+    × (executed (Some word) (record view { reserved = reserved }) span room byte
+    ≡ executed (Some word) view span room byte)
 unfolding action_of executed
 lr-reserved word rd rs1 aq rl view reserved span room from len byte is reads =
     let other : HartView = record view { reserved = reserved } in
     let here = lr-action word rd rs1 aq rl view span room from len is reads in
     let same : touched (Some word) other span room ≡ touched (Some word) view span room = rw is refl in
-    let there = lr-action word rd rs1 aq rl other span room from len is (same ∙ reads) in
-    (same ∙ reads, ap (λ action. perform action other byte) there.1 ∙ sym (ap (λ action. perform action view byte) here.1))
+    let there = lr-action word rd rs1 aq rl other span room from len is (same ∙ reads) in (
+      same ∙ reads,
+      ap (λ action. perform action other byte) there.1
+          ∙ sym (ap (λ action. perform action view byte) here.1),
+    )
 
 -- it does not stop its hart
 lr-goes : (word : ℕ) (rd rs1 : Reg) (aq rl : Bool) (view : HartView) (span : Span) (room from len : ℕ) (byte : ℕ → ℕ) →
@@ -139,10 +149,13 @@ reserves state h word is = by (is_load_reserved (next_insn state h)) refl is
     found reserving (len, reads) =
         let lr = reserve_insn (code_word state.code view.pc) reserving in
         let at_word = rw lr.here at reads in
-        let four = (lr-action lr.word lr.rd lr.rs1 lr.aq lr.rl view (span_of state) (room_of state) word len lr.means at_word).0 in
+        let four =
+        (lr-action lr.word lr.rd lr.rs1 lr.aq lr.rl view (span_of state) (room_of state) word len
+        lr.means at_word).0 in
         let goes =
         ap (λ w. stops (executed w view (span_of state) (room_of state) (byte_in state.base state.bytes))) lr.here
-        ∙ lr-goes lr.word lr.rd lr.rs1 lr.aq lr.rl view (span_of state) (room_of state) word len (byte_in state.base state.bytes) lr.means at_word in
+        ∙ lr-goes lr.word lr.rd lr.rs1 lr.aq lr.rl view (span_of state) (room_of state) word len
+        (byte_in state.base state.bytes) lr.means at_word in
         record {
           reserving = reserving;
           reads = reads ∙ ap (Read word) four;
@@ -162,14 +175,19 @@ pub record Quiet (state : FlatState) (h : ℕ) : Type 0 where
 
 pub quiet_of : (state : FlatState) (h : ℕ) → is_quiet state h ≡ true → Quiet state h
 quiet_of state h is =
-    let first = first_of_both (not (is_some (next_touch state h)) && not (is_store_conditional (next_insn state h))) (not (calls_or_stops state h)) is in
+    let first =
+    first_of_both (not (is_some (next_touch state h)) && not (is_store_conditional (next_insn state h)))
+    (not (calls_or_stops state h)) is in
     record {
       untouched =
           none_from (next_touch state h)
           (not-true (is_some (next_touch state h)) (first_of_both (not (is_some (next_touch state h))) _ first));
-      no_conditional = not-true (is_store_conditional (next_insn state h)) (second_of_both (not (is_some (next_touch state h))) _ first);
+      no_conditional =
+          not-true (is_store_conditional (next_insn state h))
+          (second_of_both (not (is_some (next_touch state h))) _ first);
       goes_on = not-true (calls_or_stops state h)
-          (second_of_both (not (is_some (next_touch state h)) && not (is_store_conditional (next_insn state h))) (not (calls_or_stops state h)) is);
+          (second_of_both (not (is_some (next_touch state h)) && not (is_store_conditional (next_insn state h)))
+          (not (calls_or_stops state h)) is);
     }
 
 -- what writes nothing leaves memory as it was
@@ -177,13 +195,16 @@ no_store : (state : FlatState) (h : ℕ) → IsNoWrite (next_access state h) →
 no_store state h none = by (next_store state h) (within state (view_of state h)).store
   where
     by : (store : Option Store) →
-        MatchOption store (IsNoWrite (next_access state h)) (λ store. next_access state h ≡ Write store.address store.len) → store ≡ None
+        MatchOption store (IsNoWrite (next_access state h))
+        (λ store. next_access state h ≡ Write store.address store.len) → store ≡ None
     by None match = refl
     by (Some store) match = absurd (subst IsNoWrite match none)
 
-pub keeps_memory : (state : FlatState) (h : ℕ) → status_of state h ≡ Running → IsNoWrite (next_access state h) → (flat state h).bytes ≡ state.bytes
+pub keeps_memory : (state : FlatState) (h : ℕ) → status_of state h ≡ Running → IsNoWrite (next_access state h) →
+    (flat state h).bytes ≡ state.bytes
 keeps_memory state h runs none =
-    ap (λ new. new.bytes) (running state h runs) ∙ ap (λ store. stored_by store state.base state.bytes) (no_store state h none)
+    ap (λ new. new.bytes) (running state h runs) ∙ ap (λ store. stored_by store state.base state.bytes)
+    (no_store state h none)
 
 untouched_writes : (access : Access) → touch_of access ≡ None → IsNoWrite access
 untouched_writes (Write from len) none = absurd (cc)
@@ -208,7 +229,8 @@ quiet_silent state h is =
     record { writes_none = untouched_writes (next_access state h) it.untouched; goes_on = it.goes_on }
 
 -- so is each of an armed run, which leaves memory as it was
-module _ (committed : FlatState) (h : ℕ) (cache : List (List Way)) (armed : Armed) (run : IsArmedRun committed h cache armed) where
+module _ (committed : FlatState) (h : ℕ) (cache : List (List Way)) (armed : Armed)
+    (run : IsArmedRun committed h cache armed) where
   pub silent_at : (n : ℕ) → n < armed.count → IsSilent (alone committed h n) h
   silent_at zero less = reserve_silent committed h armed.word run.reserve
   silent_at (suc n) less = quiet_silent (alone committed h (suc n)) h (run.quiet (suc n) (omega arith) less)
@@ -218,7 +240,8 @@ module _ (committed : FlatState) (h : ℕ) (cache : List (List Way)) (armed : Ar
   armed_memory (suc n) within =
       let next : suc n ≡ n + 1 = omega arith in
       ap (λ m. (alone committed h m).bytes) next ∙ ap (λ state. state.bytes) (alone_more committed h n)
-      ∙ keeps_memory (alone committed h n) h (run.running n (omega (arith, within))) (silent_at n (omega (arith, within))).writes_none
+      ∙ keeps_memory (alone committed h n) h (run.running n (omega (arith, within)))
+      (silent_at n (omega (arith, within))).writes_none
       ∙ armed_memory n (omega (arith, within))
 
 -- an SC that stores, stores a word
@@ -246,11 +269,14 @@ sc-length : (word : ℕ) (rd rs1 rs2 : Reg) (aq rl : Bool) (view : HartView) (sp
 unfolding action_of
 sc-length word rd rs1 rs2 aq rl view span room from len is writes =
     let address : ℕ = get view.regs rs1.number in
-    tested (address % 4 == 0) (holds span address 4) (has_reserved_of view.reserved address) address (get view.regs rs2.number) _ _
+    tested (address % 4 == 0) (holds span address 4) (has_reserved_of view.reserved address) address
+    (get view.regs rs2.number) _ _
     (rw is at writes)
   where
     tested : (b c d : Bool) (address value misaligned outside : ℕ) →
-        footprint (if b then (if c then (if d then actions.StoreConditional rd address value else actions.Fail rd) else actions.Trap outside)
+        footprint
+        (if b then (if c then (if d then actions.StoreConditional rd address value else actions.Fail rd)
+        else actions.Trap outside)
         else actions.Trap misaligned) ≡ Write from len → len ≡ 4
     tested true true true address value misaligned outside h = cc
     tested true true false address value misaligned outside h = absurd (cc)
@@ -267,15 +293,18 @@ pub record Completes (state : FlatState) (h : ℕ) (swap : Swap) : Type 0 where
   pub stores : StoresWord state h swap.word swap.new
   pub old : swap.old ≡ loaded (byte_in state.base state.bytes) swap.word 4
 
-pub completes_by : (state : FlatState) (h : ℕ) (swap : Swap) → next_conditional state h ≡ Some swap → Completes state h swap
+pub completes_by : (state : FlatState) (h : ℕ) (swap : Swap) → next_conditional state h ≡ Some swap →
+    Completes state h swap
 completes_by state h swap is = by (is_store_conditional (next_insn state h)) refl is
   where
-    length_of : is_store_conditional (next_insn state h) ≡ true → (store : Store) → next_store state h ≡ Some store → store.len ≡ 4
+    length_of : is_store_conditional (next_insn state h) ≡ true → (store : Store) →
+        next_store state h ≡ Some store → store.len ≡ 4
     length_of conditional store stores =
         let view = view_of state h in
         let sc = conditional_insn (code_word state.code view.pc) conditional in
         let writes = rw sc.here at (writes_store state h store stores) in
-        sc-length sc.word sc.rd sc.rs1 sc.rs2 sc.aq sc.rl view (span_of state) (room_of state) store.address store.len sc.means writes
+        sc-length sc.word sc.rd sc.rs1 sc.rs2 sc.aq sc.rl view (span_of state) (room_of state) store.address
+        store.len sc.means writes
 
     found : is_store_conditional (next_insn state h) ≡ true → (store : Option Store) → next_store state h ≡ store →
         swap_of state store ≡ Some swap → Completes state h swap
@@ -285,7 +314,8 @@ completes_by state h swap is = by (is_store_conditional (next_insn state h)) ref
         record {
           conditional = conditional;
           stores =
-              stores_word state h swap.word swap.new store stores (ap (λ swap. swap.word) same) (length_of conditional store stores)
+              stores_word state h swap.word swap.new store stores (ap (λ swap. swap.word) same)
+              (length_of conditional store stores)
               (ap (λ swap. swap.new) same) (conditional_no_call (next_insn state h) conditional);
           old = sym (ap (λ swap. swap.old) same)
               ∙ ap (λ word. loaded (byte_in state.base state.bytes) word 4) (ap (λ swap. swap.word) same);
@@ -308,11 +338,13 @@ acquires_at committed h cache zero swap is =
     let it = acquires committed h swap is in record { stores = it.stores; memory = refl; old = it.old }
 acquires_at committed h cache (suc n) swap (run, is) =
     let it = completes_by (alone committed h (suc n)) h swap is in
-    let memory = armed_memory committed h cache (record { count = suc n; word = swap.word }) run (suc n) (omega arith) in
+    let memory =
+    armed_memory committed h cache (record { count = suc n; word = swap.word }) run (suc n) (omega arith) in
     record {
       stores = it.stores;
       memory = memory;
       old =
-          it.old ∙ ap (λ base. loaded (byte_in base (alone committed h (suc n)).bytes) swap.word 4) (alone_base committed h (suc n))
+          it.old ∙ ap (λ base. loaded (byte_in base (alone committed h (suc n)).bytes) swap.word 4)
+          (alone_base committed h (suc n))
           ∙ ap (λ bytes. loaded (byte_in committed.base bytes) swap.word 4) memory;
     }

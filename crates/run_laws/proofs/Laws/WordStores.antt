@@ -1,8 +1,10 @@
 -- the two instructions of a lock: the swap that acquires it, and the store or swap that releases it; each stores a word
-use Rattle.std.proofs.Common.{◌≡◌, ◌∙◌, ℕ, ℤ, Bool, true, false, ◌||◌, Option, None, Some, refl, ap, sym, if◌then◌else◌, ◌==◌}
+use Rattle.std.proofs.Common.{◌≡◌, ◌∙◌, ℕ, ℤ, Bool, true, false, ◌||◌, Option, None, Some, refl, ap, sym, if◌then◌else◌}
+use Rattle.std.proofs.Common.{◌==◌}
 use Rattle.std.specs.Prelude.{MatchOption}
 use Rattle.elf_image.specs.Program.{code_word}
-use Rattle.el_model.specs.Upcoming.{Swap, calls, calls_or_stops, gives_back, is_release, is_swap, is_word, is_word_store, next_access, next_execution}
+use Rattle.el_model.specs.Upcoming.{Swap, calls, calls_or_stops, gives_back, is_release, is_swap, is_word}
+use Rattle.el_model.specs.Upcoming.{is_word_store, next_access, next_execution}
 use Rattle.el_model.specs.Upcoming.{next_store, next_swap, stops, swap_of}
 use Rattle.rv_alu.proofs.Laws.Executions.{amo-action, store-action}
 use Rattle.rv_alu.specs.Execution.{Execution, Goes, Stops, Store, insn_at, store_in}
@@ -29,10 +31,12 @@ writes_store state h store is =
     is_match (next_store state h) is (within state (view_of state h)).store
   where
     is_match : (found : Option Store) → found ≡ Some store →
-        MatchOption found (IsNoWrite (next_access state h)) (λ store. next_access state h ≡ Write store.address store.len) →
+        MatchOption found (IsNoWrite (next_access state h))
+        (λ store. next_access state h ≡ Write store.address store.len) →
         next_access state h ≡ Write store.address store.len
     is_match None is match = absurd (cc)
-    is_match (Some found) is match = let same : found ≡ store = cc in match ∙ ap (λ store. Write store.address store.len) same
+    is_match (Some found) is match = let same : found ≡ store =
+        cc in match ∙ ap (λ store. Write store.address store.len) same
 
 -- an instruction that stores does not stop its hart
 pub storing_goes : (execution : Execution) (store : Store) → store_in execution ≡ Some store → stops execution ≡ false
@@ -82,8 +86,8 @@ pub word_store_insn : (found : Option ℕ) → is_word_store (insn_at found) ≡
 word_store_insn None is = absurd (cc)
 word_store_insn (Some word) is = by (decoded word) refl is
   where
-    by_width : (width : StoreWidth) (rs1 rs2 : Reg) (offset : ℤ) → decoded word ≡ Some (insns.Store width rs1 rs2 offset) →
-        is_word width ≡ true → IsWordStore (Some word)
+    by_width : (width : StoreWidth) (rs1 rs2 : Reg) (offset : ℤ) →
+        decoded word ≡ Some (insns.Store width rs1 rs2 offset) → is_word width ≡ true → IsWordStore (Some word)
     by_width widths.Word rs1 rs2 offset means is = record {
       word = word;
       rs1 = rs1;
@@ -99,21 +103,24 @@ word_store_insn (Some word) is = by (decoded word) refl is
     by _ means is = absurd (cc)
 
 -- the length of what is stored
-swap_length : (state : FlatState) (h : ℕ) (store : Store) → is_swap (next_insn state h) ≡ true → next_store state h ≡ Some store → store.len ≡ 4
+swap_length : (state : FlatState) (h : ℕ) (store : Store) → is_swap (next_insn state h) ≡ true →
+    next_store state h ≡ Some store → store.len ≡ 4
 swap_length state h store is stores =
     let view = view_of state h in
     let atomic = swap_insn (code_word state.code view.pc) is in
     let writes = rw atomic.here at (writes_store state h store stores) in
-    (amo-action atomic.word atomic.op atomic.rd atomic.rs1 atomic.rs2 atomic.aq atomic.rl view (span_of state) (room_of state) store.address store.len
+    (amo-action atomic.word atomic.op atomic.rd atomic.rs1 atomic.rs2 atomic.aq atomic.rl view (span_of state)
+    (room_of state) store.address store.len
     atomic.means writes).1
 
-word_store_length : (state : FlatState) (h : ℕ) (store : Store) → is_word_store (next_insn state h) ≡ true → next_store state h ≡ Some store →
-    store.len ≡ 4
+word_store_length : (state : FlatState) (h : ℕ) (store : Store) → is_word_store (next_insn state h) ≡ true →
+    next_store state h ≡ Some store → store.len ≡ 4
 word_store_length state h store is stores =
     let view = view_of state h in
     let found = word_store_insn (code_word state.code view.pc) is in
     let writes = rw found.here at (writes_store state h store stores) in
-    (store-action found.word widths.Word found.rs1 found.rs2 found.offset view (span_of state) (room_of state) store.address store.len
+    (store-action found.word widths.Word found.rs1 found.rs2 found.offset view (span_of state) (room_of state)
+    store.address store.len
     found.means writes).1
 
 -- neither makes a call
@@ -139,7 +146,8 @@ pub stores_word : (state : FlatState) (h word value : ℕ) (store : Store) → n
     store.value ≡ value → calls (next_insn state h) ≡ false → StoresWord state h word value
 stores_word state h word value store is address len same none =
     let stored : store ≡ word_store word 4 value =
-    ap (λ word. word_store word store.len store.value) address ∙ ap (λ len. word_store word len store.value) len ∙ ap (word_store word 4) same in
+    ap (λ word. word_store word store.len store.value) address ∙ ap (λ len. word_store word len store.value) len
+    ∙ ap (word_store word 4) same in
     record {
       stores = is ∙ ap Some stored;
       writes = writes_store state h (word_store word 4 value) (is ∙ ap Some stored);
@@ -158,41 +166,45 @@ acquires state h swap is = by (is_swap (next_insn state h)) refl is
     same_some : {A : Type 0} (x y : A) → Some x ≡ Some y → x ≡ y
     same_some x y same = cc
 
-    found : is_swap (next_insn state h) ≡ true → (store : Option Store) → next_store state h ≡ store → swap_of state store ≡ Some swap →
-        Acquires state h swap
+    found : is_swap (next_insn state h) ≡ true → (store : Option Store) → next_store state h ≡ store →
+        swap_of state store ≡ Some swap → Acquires state h swap
     found swaps None none is = absurd (cc)
     found swaps (Some store) stores is =
         let same = same_some _ swap is in
         record {
           swaps = swaps;
           stores =
-              stores_word state h swap.word swap.new store stores (ap (λ swap. swap.word) same) (swap_length state h store swaps stores)
+              stores_word state h swap.word swap.new store stores (ap (λ swap. swap.word) same)
+              (swap_length state h store swaps stores)
               (ap (λ swap. swap.new) same) (swap_no_call (next_insn state h) swaps);
           old = sym (ap (λ swap. swap.old) same)
               ∙ ap (λ word. loaded (byte_in state.base state.bytes) word 4) (ap (λ swap. swap.word) same);
         }
 
-    by : (swaps : Bool) → is_swap (next_insn state h) ≡ swaps → (if swaps then swap_of state (next_store state h) else None) ≡ Some swap →
-        Acquires state h swap
+    by : (swaps : Bool) → is_swap (next_insn state h) ≡ swaps →
+        (if swaps then swap_of state (next_store state h) else None) ≡ Some swap → Acquires state h swap
     by true swaps is = found swaps (next_store state h) refl is
     by false swaps is = absurd (cc)
 
 -- and a release
 pub releases : (state : FlatState) (h word old : ℕ) → is_release state h word old ≡ true → StoresWord state h word old
 releases state h word old is =
-    by (is_word_store (next_insn state h)) (is_swap (next_insn state h)) refl refl (first_of_both _ _ is) (next_store state h) refl (second_of_both _ _ is)
+    by (is_word_store (next_insn state h)) (is_swap (next_insn state h)) refl refl (first_of_both _ _ is)
+    (next_store state h) refl (second_of_both _ _ is)
   where
-    stored : (store : Store) → next_store state h ≡ Some store → gives_back word old (Some store) ≡ true → store.len ≡ 4 →
-        calls (next_insn state h) ≡ false → StoresWord state h word old
+    stored : (store : Store) → next_store state h ≡ Some store → gives_back word old (Some store) ≡ true →
+        store.len ≡ 4 → calls (next_insn state h) ≡ false → StoresWord state h word old
     stored store is back len none =
         stores_word state h word old store is (number_of_test store.address word (first_of_both _ _ back)) len
         (number_of_test store.value old (second_of_both (store.address == word) _ back)) none
 
-    by : (stores swaps : Bool) → is_word_store (next_insn state h) ≡ stores → is_swap (next_insn state h) ≡ swaps → (stores || swaps) ≡ true →
-        (store : Option Store) → next_store state h ≡ store → gives_back word old store ≡ true → StoresWord state h word old
+    by : (stores swaps : Bool) → is_word_store (next_insn state h) ≡ stores → is_swap (next_insn state h) ≡ swaps →
+        (stores || swaps) ≡ true → (store : Option Store) → next_store state h ≡ store →
+        gives_back word old store ≡ true → StoresWord state h word old
     by stores swaps stores_is swaps_is either None none back = absurd (cc)
     by true swaps stores_is swaps_is either (Some store) is back =
-        stored store is back (word_store_length state h store stores_is is) (word_store_no_call (next_insn state h) stores_is)
+        stored store is back (word_store_length state h store stores_is is)
+        (word_store_no_call (next_insn state h) stores_is)
     by false true stores_is swaps_is either (Some store) is back =
         stored store is back (swap_length state h store swaps_is is) (swap_no_call (next_insn state h) swaps_is)
     by false false stores_is swaps_is either store is back = absurd (cc)

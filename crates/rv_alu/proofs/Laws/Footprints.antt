@@ -13,7 +13,8 @@ use Rattle.rv_word.specs.declared.reg.Reg.{Reg}
 use Rattle.rv_alu.specs.declared.action.Action.{Action}
 use Rattle.rv_alu.specs.declared.action.Action.TheVariants.{Answer, Append, Trap, JumpAndLink, Go}
 use Rattle.rv_alu.specs.declared.span.Span.{Span}
-use Rattle.rv_alu.specs.Action.{action_of, checked_of, has_reserved_of, indirect_of, jump_of, load_size_of, next_pc_of, store_size_of}
+use Rattle.rv_alu.specs.Action.{action_of, checked_of, has_reserved_of, indirect_of, jump_of, load_size_of, next_pc_of}
+use Rattle.rv_alu.specs.Action.{store_size_of}
 use Rattle.rv_alu.specs.Cause.{instruction_address_misaligned}
 use Rattle.rv_alu.specs.Footprint.{IsFootprint, IsInPlace, IsPiece, IsSize, footprint}
 use Rattle.rv_alu.specs.Operation.{moved_of, taken_of}
@@ -42,7 +43,8 @@ some_size size (inr (inl two)) = omega arith
 some_size size (inr (inr four)) = omega arith
 
 -- an aligned piece of such a size, in memory, is a piece of one line
-piece : (span : Span) (address size : ℕ) → IsSize size → (address % size == 0) ≡ true → holds span address size ≡ true → IsPiece span address size
+piece : (span : Span) (address size : ℕ) → IsSize size → (address % size == 0) ≡ true → holds span address size ≡ true →
+    IsPiece span address size
 piece span address size sized aligned held =
     record {
       some = some_size size sized;
@@ -72,8 +74,8 @@ pub record Fits (insn : Insn) (span : Span) (room : ℕ) (action : Action) : Typ
   pub footprint : IsFootprint insn span room (footprint action)
 
 -- one of two actions
-fits-if : (insn : Insn) (span : Span) (room : ℕ) (b : Bool) (x y : Action) → Fits insn span room x → Fits insn span room y →
-    Fits insn span room (if b then x else y)
+fits-if : (insn : Insn) (span : Span) (room : ℕ) (b : Bool) (x y : Action) → Fits insn span room x →
+    Fits insn span room y → Fits insn span room (if b then x else y)
 fits-if insn span room true x y hx hy = hx
 fits-if insn span room false x y hx hy = hy
 
@@ -81,7 +83,8 @@ fits-if insn span room false x y hx hy = hy
 fits-trap : (insn : Insn) (span : Span) (room cause : ℕ) → Fits insn span room (Trap cause)
 fits-trap insn span room cause = record { in_place = tt; footprint = tt }
 
-fits-jump_and_link : (insn : Insn) (span : Span) (room : ℕ) (rd : Reg) (target : ℕ) → Fits insn span room (JumpAndLink rd target)
+fits-jump_and_link : (insn : Insn) (span : Span) (room : ℕ) (rd : Reg) (target : ℕ) →
+    Fits insn span room (JumpAndLink rd target)
 fits-jump_and_link insn span room rd target = record { in_place = tt; footprint = tt }
 
 fits-go : (insn : Insn) (span : Span) (room target : ℕ) → Fits insn span room (Go target)
@@ -89,9 +92,11 @@ fits-go insn span room target = record { in_place = tt; footprint = tt }
 
 -- an access that may go ahead is a piece of one line
 fits-checked : (insn : Insn) (span : Span) (room address size misaligned outside : ℕ) (action : Action) → IsSize size →
-    (IsPiece span address size → Fits insn span room action) → Fits insn span room (checked_of span address size misaligned outside action)
+    (IsPiece span address size → Fits insn span room action) →
+    Fits insn span room (checked_of span address size misaligned outside action)
 fits-checked insn span room address size misaligned outside action sized fits =
-    tested (address % size == 0) (holds span address size) (λ aligned held. fits (piece span address size sized aligned held))
+    tested (address % size == 0) (holds span address size)
+    (λ aligned held. fits (piece span address size sized aligned held))
   where
     tested : (b c : Bool) → (b ≡ true → c ≡ true → Fits insn span room action) →
         Fits insn span room (if b then (if c then action else Trap outside) else Trap misaligned)
@@ -99,12 +104,15 @@ fits-checked insn span room address size misaligned outside action sized fits =
     tested true false h = fits-trap insn span room outside
     tested false c h = fits-trap insn span room misaligned
 
-fits-jump : (insn : Insn) (span : Span) (room target : ℕ) (action : Action) → Fits insn span room action → Fits insn span room (jump_of target action)
+fits-jump : (insn : Insn) (span : Span) (room target : ℕ) (action : Action) → Fits insn span room action →
+    Fits insn span room (jump_of target action)
 fits-jump insn span room target action h =
-    fits-if insn span room (target % 4 == 0) action (Trap instruction_address_misaligned) h (fits-trap insn span room instruction_address_misaligned)
+    fits-if insn span room (target % 4 == 0) action (Trap instruction_address_misaligned) h
+    (fits-trap insn span room instruction_address_misaligned)
 
 -- what is left of a line in memory, or less of it
-rest_of_line : (span : Span) (address count room : ℕ) → 1 ≤ count → 1 ≤ room → holds span (address - address % LINE_BYTES) LINE_BYTES ≡ true →
+rest_of_line : (span : Span) (address count room : ℕ) → 1 ≤ count → 1 ≤ room →
+    holds span (address - address % LINE_BYTES) LINE_BYTES ≡ true →
     IsPiece span address (min count (min (LINE_BYTES - address % LINE_BYTES) room))
 rest_of_line span address count room some left held =
     record {
@@ -118,9 +126,11 @@ rest_of_line span address count room some left held =
 fits-appended : (span : Span) (address count room a b c d : ℕ) (file none lined full : Bool) →
     (none ≡ false → lined ≡ true → full ≡ false → IsPiece span address count × (count ≤ room)) →
     Fits insns.Ecall span room
-    (if not file then Answer a else if none then Answer b else if not lined then Answer c else if full then Answer d else Append address count)
+    (if not file then Answer a else if none then Answer b else if not lined then Answer c else if full then Answer d
+    else Append address count)
 fits-appended span address count room a b c d true false true false h =
-    let there : IsPiece span address count × (count ≤ room) = h refl refl refl in record { in_place = there; footprint = there }
+    let there : IsPiece span address count × (count ≤ room) = h refl refl refl in
+    record { in_place = there; footprint = there }
 fits-appended span address count room a b c d true false true true h = record { in_place = tt; footprint = tt }
 fits-appended span address count room a b c d true false false full h = record { in_place = tt; footprint = tt }
 fits-appended span address count room a b c d true true lined full h = record { in_place = tt; footprint = tt }
@@ -129,13 +139,18 @@ fits-appended span address count room a b c d false none lined full h = record {
 fits-write_call : (regs : List ℕ) (span : Span) (room : ℕ) → Fits insns.Ecall span room (write_call_of regs span room)
 fits-write_call regs span room =
     fits-appended span (get regs a1) (min (get regs a2) (min (LINE_BYTES - get regs a1 % LINE_BYTES) room)) room _ _ _ _
-    ((get regs a0 == 1) || (get regs a0 == 2)) (get regs a2 == 0) (holds span (get regs a1 - get regs a1 % LINE_BYTES) LINE_BYTES) (room == 0)
-    (λ none lined full. (rest_of_line span (get regs a1) (get regs a2) room (grind (arith, nat_tests)) (grind (arith, nat_tests)) lined, omega arith))
+    ((get regs a0 == 1) || (get regs a0 == 2)) (get regs a2 == 0)
+    (holds span (get regs a1 - get regs a1 % LINE_BYTES) LINE_BYTES) (room == 0)
+    (λ none lined full. (
+      rest_of_line span (get regs a1) (get regs a2) room (grind (arith, nat_tests)) (grind (arith, nat_tests)) lined,
+      omega arith,
+    ))
 
 fits-call : (regs : List ℕ) (span : Span) (room : ℕ) → Fits insns.Ecall span room (call_of regs span room)
 fits-call regs span room =
     fits-if insns.Ecall span room (get regs a7 == exit_number) _ _ (record { in_place = tt; footprint = tt })
-    (fits-if insns.Ecall span room (get regs a7 == write_number) _ _ (fits-write_call regs span room) (record { in_place = tt; footprint = tt }))
+    (fits-if insns.Ecall span room (get regs a7 == write_number) _ _ (fits-write_call regs span room)
+    (record { in_place = tt; footprint = tt }))
 
 -- the action of each instruction fits
 pub fits : (insn : Insn) (pc : ℕ) (regs : List ℕ) (reserved : Option ℕ) (span : Span) (room : ℕ) →
@@ -154,8 +169,10 @@ fits (insns.Jalr rd rs1 offset) pc regs reserved span room =
 fits (insns.Branch test rs1 rs2 offset) pc regs reserved span room =
     let insn = insns.Branch test rs1 rs2 offset in
     let target = moved_of pc offset in
-    fits-if insn span room (taken_of test (get regs rs1.number) (get regs rs2.number)) (jump_of target (Go target)) (Go (next_pc_of pc))
-    (fits-jump insn span room target (Go target) (fits-go insn span room target)) (fits-go insn span room (next_pc_of pc))
+    fits-if insn span room (taken_of test (get regs rs1.number) (get regs rs2.number)) (jump_of target (Go target))
+    (Go (next_pc_of pc))
+    (fits-jump insn span room target (Go target) (fits-go insn span room target))
+    (fits-go insn span room (next_pc_of pc))
 fits (insns.Load width rd rs1 offset) pc regs reserved span room =
     fits-checked (insns.Load width rd rs1 offset) span room _ (load_size_of width) _ _ _ (load_sized width)
     (λ there. record { in_place = (there, load_sized width); footprint = (there, load_sized width) })
@@ -168,10 +185,12 @@ fits insns.Fence pc regs reserved span room = record { in_place = tt; footprint 
 fits insns.Ecall pc regs reserved span room = fits-call regs span room
 fits insns.Ebreak pc regs reserved span room = record { in_place = tt; footprint = tt }
 fits (insns.Lr rd rs1 aq rl) pc regs reserved span room =
-    fits-checked (insns.Lr rd rs1 aq rl) span room _ 4 _ _ _ word_sized (λ there. record { in_place = there; footprint = (there, word_sized) })
+    fits-checked (insns.Lr rd rs1 aq rl) span room _ 4 _ _ _ word_sized
+    (λ there. record { in_place = there; footprint = (there, word_sized) })
 fits (insns.Sc rd rs1 rs2 aq rl) pc regs reserved span room =
     fits-checked (insns.Sc rd rs1 rs2 aq rl) span room _ 4 _ _ _ word_sized
     (λ there. fits-if (insns.Sc rd rs1 rs2 aq rl) span room (has_reserved_of reserved (get regs rs1.number)) _ _
     (record { in_place = there; footprint = (there, word_sized) }) (record { in_place = tt; footprint = tt }))
 fits (insns.Amo op rd rs1 rs2 aq rl) pc regs reserved span room =
-    fits-checked (insns.Amo op rd rs1 rs2 aq rl) span room _ 4 _ _ _ word_sized (λ there. record { in_place = there; footprint = (there, word_sized) })
+    fits-checked (insns.Amo op rd rs1 rs2 aq rl) span room _ 4 _ _ _ word_sized
+    (λ there. record { in_place = there; footprint = (there, word_sized) })

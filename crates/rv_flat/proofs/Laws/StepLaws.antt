@@ -1,8 +1,10 @@
 -- the laws of a step
-use Rattle.std.proofs.Common.{◌≡◌, ◌≢◌, ◌≤◌, ◌<◌, ℕ, ◌+◌, ◌-◌, ◌%◌, List, [], ◌∷◌, ◌++◌, length, Option, None, Some, refl, arith, ◌*◌, zero-add, ap}
+use Rattle.std.proofs.Common.{◌≡◌, ◌≢◌, ◌≤◌, ◌<◌, ℕ, ◌+◌, ◌-◌, ◌%◌, List, [], ◌∷◌, ◌++◌, length, Option, None, Some}
+use Rattle.std.proofs.Common.{refl, arith, ◌*◌, zero-add, ap}
 use Rattle.std.proofs.Common.{sym, ◌∙◌, inl, inr, ◌⊎◌}
 use Rattle.std.specs.Prelude.{MatchOption, map, replicate, slice_index, slice_index_or, slice_set}
-use Rattle.std.proofs.lemmas.List.{append-nil, get_or-set_other, get_or-set_same, length-map, length-set, replicate-append-replicate}
+use Rattle.std.proofs.lemmas.List.{append-nil, get_or-set_other, get_or-set_same, length-map, length-set}
+use Rattle.std.proofs.lemmas.List.{replicate-append-replicate}
 use Rattle.std.proofs.lemmas.Bool.{cases_eq}
 use Rattle.std.proofs.Math.ListN.{get_or-map}
 use Rattle.std.proofs.lemmas.List.FromFn.{get_or-map-range_with_len, length-map-range_with_len}
@@ -22,32 +24,40 @@ use Rattle.rv_alu.specs.Footprint.{IsFootprint, IsNoWrite, IsPiece, access_of}
 use Rattle.rv_alu.specs.Regs.{AreRegs, set}
 use Rattle.rv_alu.specs.declared.span.Span.{Span}
 use Rattle.rv_word.specs.declared.insn.Insn.{Insn}
-use Rattle.rv_flat.specs.FlatState.{FlatState, first_regs, first_view, no_hart, room_of, span_of, start, status_of, view_of}
-use Rattle.rv_flat.specs.Laws.{HasRegs, IsInOneLine, KeepsShape, Writes, footprint_of, seen_after, touched_by, touched_in, written_line}
+use Rattle.rv_flat.specs.FlatState.{FlatState, first_regs, first_view, no_hart, room_of, span_of, start, status_of}
+use Rattle.rv_flat.specs.FlatState.{view_of}
+use Rattle.rv_flat.specs.Laws.{HasRegs, IsInOneLine, KeepsShape, Writes, footprint_of, seen_after, touched_by}
+use Rattle.rv_flat.specs.Laws.{touched_in, written_line}
 use Rattle.rv_flat.specs.Memory.{byte_in, piece_of}
 use Rattle.rv_flat.specs.Run.{alone, run}
-use Rattle.rv_flat.specs.Step.{appended_by, applied, execution_of, flat, status_step, stored_by, unreserved, unreserved_by}
+use Rattle.rv_flat.specs.Step.{appended_by, applied, execution_of, flat, status_step, stored_by, unreserved}
+use Rattle.rv_flat.specs.Step.{unreserved_by}
 use Rattle.rv_flat.proofs.Laws.PutBytes.{length-put_bytes, put_bytes-other}
 
 -- what a hart touches is in memory and in one line
-footprint-one_line : (insn : Insn) (span : Span) (room : ℕ) (access : Access) → IsFootprint insn span room access → IsInOneLine span access
+footprint-one_line : (insn : Insn) (span : Span) (room : ℕ) (access : Access) → IsFootprint insn span room access →
+    IsInOneLine span access
 footprint-one_line insn span room (Read from len) h = h.0
 footprint-one_line insn span room (Write from len) h = h.0
 footprint-one_line insn span room Nothing h = tt
 footprint-one_line insn span room (Trap cause) h = tt
 footprint-one_line insn span room (Exit code) h = tt
 
-insn-one_line : (insn : Option Insn) (view : HartView) (span : Span) (room : ℕ) → IsInOneLine span (insn_touched insn view span room)
+insn-one_line : (insn : Option Insn) (view : HartView) (span : Span) (room : ℕ) →
+    IsInOneLine span (insn_touched insn view span room)
 insn-one_line None view span room = tt
 insn-one_line (Some insn) view span room =
-    footprint-one_line insn span room (access_of insn view.pc view.regs view.reserved span room) (fits insn view.pc view.regs view.reserved span room).footprint
+    footprint-one_line insn span room (access_of insn view.pc view.regs view.reserved span room)
+    (fits insn view.pc view.regs view.reserved span room).footprint
 
 pub one_line-touched : (state : FlatState) (view : HartView) → IsInOneLine (span_of state) (touched_by state view)
-one_line-touched state view = insn-one_line (insn_at (code_word state.code view.pc)) view (span_of state) (room_of state)
+one_line-touched state view =
+    insn-one_line (insn_at (code_word state.code view.pc)) view (span_of state) (room_of state)
 
 -- what is stored and appended is what is touched
 pub within : (state : FlatState) (view : HartView) → IsWithin (touched_by state view) (execution_of state view)
-within state view = executed-within (code_word state.code view.pc) view (span_of state) (room_of state) (byte_in state.base state.bytes)
+within state view =
+    executed-within (code_word state.code view.pc) view (span_of state) (room_of state) (byte_in state.base state.bytes)
 
 by_status : (P : Access → FlatState → Type 0) (state : FlatState) (hart : ℕ) (view : HartView) (status : HartStatus) →
     P Nothing state → P (touched_by state view) (applied state hart view (execution_of state view)) →
@@ -58,16 +68,21 @@ by_status P state hart view (Trapped cause pc) still goes = still
 
 -- what holds where nothing is done, and of what the hart's next instruction does, holds of the step
 pub by_step : (P : Access → FlatState → Type 0) (state : FlatState) (hart : ℕ) →
-    P Nothing state → P (touched_by state (view_of state hart)) (applied state hart (view_of state hart) (execution_of state (view_of state hart))) →
+    P Nothing state →
+    P (touched_by state (view_of state hart))
+    (applied state hart (view_of state hart) (execution_of state (view_of state hart))) →
     P (footprint_of state hart) (flat state hart)
 unfolding flat
 by_step P state hart still goes = by_status P state hart (view_of state hart) (status_of state hart) still goes
 
 -- what a step touches is in memory and in one line
 pub one_line : (state : FlatState) (hart : ℕ) → IsInOneLine (span_of state) (footprint_of state hart)
-one_line state hart = by_step (λ access new. IsInOneLine (span_of state) access) state hart tt (one_line-touched state (view_of state hart))
+one_line state hart =
+    by_step (λ access new. IsInOneLine (span_of state) access) state hart tt
+    (one_line-touched state (view_of state hart))
 
-still_status : (state : FlatState) (hart : ℕ) (view : HartView) (status : HartStatus) → status ≢ Running → status_step state hart view status ≡ state
+still_status : (state : FlatState) (hart : ℕ) (view : HartView) (status : HartStatus) → status ≢ Running →
+    status_step state hart view status ≡ state
 still_status state hart view Running h = absurd (h refl)
 still_status state hart view (Exited code) h = refl
 still_status state hart view (Trapped cause pc) h = refl
@@ -83,7 +98,8 @@ pub running : (state : FlatState) (hart : ℕ) → status_of state hart ≡ Runn
 unfolding flat
 running state hart h = ap (status_step state hart (view_of state hart)) h
 
-pub length-unreserved_by : (store : Option Store) (harts : List HartView) → length (unreserved_by store harts) ≡ length harts
+pub length-unreserved_by : (store : Option Store) (harts : List HartView) →
+    length (unreserved_by store harts) ≡ length harts
 length-unreserved_by None harts = refl
 length-unreserved_by (Some store) harts = length-map harts (unreserved (line_number store.address))
 
@@ -108,7 +124,14 @@ keeps_shape state hart =
     let view : HartView = view_of state hart in
     let execution : Execution = execution_of state view in
     by_step (λ access new. KeepsShape state new) state hart
-    (record { base = refl; length_of_bytes = refl; code = refl; harts = refl; more = []; output = sym (append-nil state.output) })
+    (record {
+      base = refl;
+      length_of_bytes = refl;
+      code = refl;
+      harts = refl;
+      more = [];
+      output = sym (append-nil state.output);
+    })
     (record {
       base = refl;
       length_of_bytes = length-stored_by (store_in execution) state.base state.bytes;
@@ -121,16 +144,18 @@ keeps_shape state hart =
     })
 
 -- the own view after a step
-pub view-applied : (state : FlatState) (hart : ℕ) (view : HartView) (execution : Execution) → hart < length state.harts →
-    view_of (applied state hart view execution) hart ≡ view_after execution view
+pub view-applied : (state : FlatState) (hart : ℕ) (view : HartView) (execution : Execution) →
+    hart < length state.harts → view_of (applied state hart view execution) hart ≡ view_after execution view
 view-applied state hart view execution there =
-    let within : hart < length (unreserved_by (store_in execution) state.harts) = omega (arith, length-unreserved_by (store_in execution) state.harts) in
+    let within : hart < length (unreserved_by (store_in execution) state.harts) =
+    omega (arith, length-unreserved_by (store_in execution) state.harts) in
     get_or-set_same (unreserved_by (store_in execution) state.harts) hart (view_after execution view) no_hart within
 
 pub own_view : (state : FlatState) (hart : ℕ) → hart < length state.harts → status_of state hart ≡ Running →
     view_of (flat state hart) hart ≡ view_after (execution_of state (view_of state hart)) (view_of state hart)
 own_view state hart there runs =
-    ap (λ new. view_of new hart) (running state hart runs) ∙ view-applied state hart (view_of state hart) (execution_of state (view_of state hart)) there
+    ap (λ new. view_of new hart) (running state hart runs) ∙ view-applied state hart (view_of state hart)
+    (execution_of state (view_of state hart)) there
 
 -- the bytes of a state are those of another, but where the access writes
 abbrev pub KeepsBytes : FlatState → Access → FlatState → Type 0
@@ -169,14 +194,18 @@ on_line span Nothing address piece there = absurd there
 on_line span (Trap cause) address piece there = absurd there
 on_line span (Exit code) address piece there = absurd there
 
-pub writes_on_line : (state : FlatState) (hart place : ℕ) → written_line (footprint_of state hart) ≢ Some (line_number (state.base + place)) →
+pub writes_on_line : (state : FlatState) (hart place : ℕ) →
+    written_line (footprint_of state hart) ≢ Some (line_number (state.base + place)) →
     slice_index (flat state hart).bytes place ≡ slice_index state.bytes place
 writes_on_line state hart place apart =
-    writes_in_footprint state hart place (λ there. apart (on_line (span_of state) (footprint_of state hart) (state.base + place) (one_line state hart) there))
+    writes_in_footprint state hart place
+    (λ there.
+    apart (on_line (span_of state) (footprint_of state hart) (state.base + place) (one_line state hart) there))
 
 -- a hart's view after another's step is as before, but for a reservation on the line that the access writes
 abbrev pub KeepsOthers : FlatState → ℕ → Access → FlatState → Type 0
-KeepsOthers state hart access new = (other : ℕ) → other ≢ hart → view_of new other ≡ seen_after access (view_of state other)
+KeepsOthers state hart access new =
+    (other : ℕ) → other ≢ hart → view_of new other ≡ seen_after access (view_of state other)
 
 seen_after-none : (access : Access) → IsNoWrite access → (view : HartView) → seen_after access view ≡ view
 seen_after-none (Write from len) none view = absurd none
@@ -189,7 +218,8 @@ unreserved_by-view : (access : Access) (store : Option Store) (harts : List Hart
     MatchOption store (IsNoWrite access) (λ store. access ≡ Write store.address store.len) →
     slice_index_or (unreserved_by store harts) other no_hart ≡ seen_after access (slice_index_or harts other no_hart)
 unreserved_by-view access None harts other none = sym (seen_after-none access none (slice_index_or harts other no_hart))
-unreserved_by-view access (Some store) harts other is = rw is (get_or-map (unreserved (line_number store.address)) harts other no_hart)
+unreserved_by-view access (Some store) harts other is =
+    rw is (get_or-map (unreserved (line_number store.address)) harts other no_hart)
 
 -- a step changes no other hart's view, but takes reservations on the line that it writes
 pub keeps_others : (state : FlatState) (hart : ℕ) → KeepsOthers state hart (footprint_of state hart) (flat state hart)
@@ -198,11 +228,13 @@ keeps_others state hart =
     let execution : Execution = execution_of state view in
     by_step (KeepsOthers state hart) state hart (λ other apart. refl)
     (λ other apart.
-    get_or-set_other (unreserved_by (store_in execution) state.harts) hart other (view_after execution view) no_hart apart
+    get_or-set_other (unreserved_by (store_in execution) state.harts) hart other
+    (view_after execution view) no_hart apart
     ∙ unreserved_by-view (touched_by state view) (store_in execution) state.harts other (within state view).store)
 
 -- a run of a list and then of another
-pub run_append : (state : FlatState) (first second : List ℕ) → run state (first ++ second) ≡ run (run state first) second
+pub run_append : (state : FlatState) (first second : List ℕ) →
+    run state (first ++ second) ≡ run (run state first) second
 run_append state [] second = refl
 run_append state (hart ∷ first) second = run_append (flat state hart) first second
 
@@ -213,26 +245,31 @@ harts-run state (hart ∷ harts) = harts-run (flat state hart) harts ∙ (keeps_
 
 -- steps of one hart, one after the other
 pub alone_sum : (state : FlatState) (hart m n : ℕ) → alone state hart (m + n) ≡ alone (alone state hart m) hart n
-alone_sum state hart m n = ap (run state) (sym (replicate-append-replicate m n hart)) ∙ run_append state (replicate m hart) (replicate n hart)
+alone_sum state hart m n =
+    ap (run state) (sym (replicate-append-replicate m n hart)) ∙ run_append state (replicate m hart) (replicate n hart)
 
 regs_along : (old new : HartView) → new ≡ old → AreRegs old.regs → AreRegs new.regs
 regs_along old new same h = (ap (λ view. length view.regs) same ∙ h.0, ap (λ view. slice_index view.regs 0) same ∙ h.1)
 
-unreserved_by-regs : (store : Option Store) (harts : List HartView) (other : ℕ) → AreRegs (slice_index_or harts other no_hart).regs →
+unreserved_by-regs : (store : Option Store) (harts : List HartView) (other : ℕ) →
+    AreRegs (slice_index_or harts other no_hart).regs →
     AreRegs (slice_index_or (unreserved_by store harts) other no_hart).regs
 unreserved_by-regs None harts other h = h
 unreserved_by-regs (Some store) harts other h =
     let line : ℕ = line_number store.address in
-    regs_along (unreserved line (slice_index_or harts other no_hart)) (slice_index_or (map (unreserved line) harts) other no_hart)
+    regs_along (unreserved line (slice_index_or harts other no_hart))
+    (slice_index_or (map (unreserved line) harts) other no_hart)
     (get_or-map (unreserved line) harts other no_hart) h
 
 -- of the hart whose view is new, or of another
 regs_by : (harts : List HartView) (hart : ℕ) (new : HartView) (other : ℕ) → (hart < length harts → AreRegs new.regs) →
     AreRegs (slice_index_or harts other no_hart).regs →
-    other < length harts → (other ≡ hart) ⊎ (other ≡ hart → ⊥) → AreRegs (slice_index_or (slice_set harts hart new) other no_hart).regs
+    other < length harts → (other ≡ hart) ⊎ (other ≡ hart → ⊥) →
+    AreRegs (slice_index_or (slice_set harts hart new) other no_hart).regs
 regs_by harts hart new other own others within (inl same) =
     let there = rw same at within in
-    regs_along new (slice_index_or (slice_set harts hart new) other no_hart) (rw same (get_or-set_same harts hart new no_hart there)) (own there)
+    regs_along new (slice_index_or (slice_set harts hart new) other no_hart)
+    (rw same (get_or-set_same harts hart new no_hart there)) (own there)
 regs_by harts hart new other own others within (inr apart) =
     regs_along (slice_index_or harts other no_hart) (slice_index_or (slice_set harts hart new) other no_hart)
     (get_or-set_other harts hart other new no_hart apart) others
@@ -248,7 +285,8 @@ keeps_regs state hart h =
     (λ other exists.
     let there : other < length harts = omega (arith, exists, length-set harts hart (view_after execution view)) in
     regs_by harts hart (view_after execution view) other
-    (λ own. executed-regs (code_word state.code view.pc) view (span_of state) (room_of state) (byte_in state.base state.bytes) (h hart (rw as_many at own)))
+    (λ own. executed-regs (code_word state.code view.pc) view (span_of state) (room_of state)
+    (byte_in state.base state.bytes) (h hart (rw as_many at own)))
     (unreserved_by-regs (store_in execution) state.harts other (h other (rw as_many at there)))
     there (cases_eq other hart))
 

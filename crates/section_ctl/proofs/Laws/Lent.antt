@@ -19,7 +19,8 @@ beside_cache cache hold old new leaves owner from_cache from_hold = leaves_owner
 pub beside_same : (cache hold : ℕ) (pool : Pooled) → LeavesBeside cache hold pool pool
 beside_same cache hold pool owner from_cache from_hold = leaves_owner-same owner pool
 
-pub beside_then : (cache hold : ℕ) (old between new : Pooled) → LeavesBeside cache hold old between → LeavesBeside cache hold between new
+pub beside_then : (cache hold : ℕ) (old between new : Pooled) → LeavesBeside cache hold old between →
+    LeavesBeside cache hold between new
     → LeavesBeside cache hold old new
 beside_then cache hold old between new first second owner from_cache from_hold =
     leaves_owner-then owner old between new (first owner from_cache from_hold) (second owner from_cache from_hold)
@@ -30,7 +31,8 @@ module _ (old new : Pooled) (cache : caches.Slotted) (hold : holds.Slotted) (owe
   pub cache_stays : caches.lent new cache ≡ caches.lent old cache
   cache_stays = cache_laws.lent-left hold.owner old new cache leaves owes.apart owes.cache_lent
 
-  pub both_by_hold : (after : holds.Slotted) → holds.IsLent new after → after.owner ≡ hold.owner → LendsBoth new cache after
+  pub both_by_hold : (after : holds.Slotted) → holds.IsLent new after → after.owner ≡ hold.owner →
+      LendsBoth new cache after
   both_by_hold after lends same = record {
     cache_lent = cache_laws.is_lent-left hold.owner old new cache leaves owes.apart owes.cache_lent;
     hold_lent = lends;
@@ -46,7 +48,8 @@ module _ (old new : Pooled) (cache : caches.Slotted) (hold : holds.Slotted) (owe
   pub hold_stays : holds.lent new hold ≡ holds.lent old hold
   hold_stays = hold_laws.lent-left cache.owner old new hold leaves hold_apart owes.hold_lent
 
-  pub both_by_cache : (after : caches.Slotted) → caches.IsLent new after → after.owner ≡ cache.owner → LendsBoth new after hold
+  pub both_by_cache : (after : caches.Slotted) → caches.IsLent new after → after.owner ≡ cache.owner →
+      LendsBoth new after hold
   both_by_cache after lends same = record {
     cache_lent = lends;
     hold_lent = hold_laws.is_lent-left cache.owner old new hold leaves hold_apart owes.hold_lent;

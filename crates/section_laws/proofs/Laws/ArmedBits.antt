@@ -1,5 +1,6 @@
 -- an armed section has read the line of its word alone, and its hart has no live section
-use Rattle.std.proofs.Common.{◌≡◌, ◌∙◌, ◌⊎◌, ℕ, Bool, true, false, List, Option, None, Some, is_some, refl, ap, sym, subst, inl, inr, ◌&&◌, ◌==◌, not}
+use Rattle.std.proofs.Common.{◌≡◌, ◌∙◌, ◌⊎◌, ℕ, Bool, true, false, List, Option, None, Some, is_some, refl, ap, sym}
+use Rattle.std.proofs.Common.{subst, inl, inr, ◌&&◌, ◌==◌, not}
 use Rattle.std.proofs.lemmas.Bool.{cases_eq, false_from_ne_true, or_parts}
 use Rattle.bus_order.specs.Order.{Request}
 use Rattle.residency.specs.Cache.{bit_in, has_marks, is_resident, marked, read_bit, touched, way_of, write_bit}
@@ -9,7 +10,8 @@ use Rattle.el_base.specs.Line.{line_number}
 use Rattle.el_base.specs.declared.outcomes.Need.TheVariants.{Read, Write}
 use Rattle.el_base.proofs.Laws.Cases.{clash, none_some, some_none}
 use Rattle.el_base.proofs.Laws.Tests.{first_of_both, number_of_test, second_of_both}
-use Rattle.el_model.specs.Deed.{Arms, Begins, Buffers, Commits, Continues, Deed, DoesWhere, Elides, LetsGo, Misses, Rests, RollsBack, Runs, Waits, hart_after}
+use Rattle.el_model.specs.Deed.{Arms, Begins, Buffers, Commits, Continues, Deed, DoesWhere, Elides, LetsGo, Misses}
+use Rattle.el_model.specs.Deed.{Rests, RollsBack, Runs, Waits, hart_after}
 use Rattle.el_model.specs.Armed.{completes}
 use Rattle.el_model.specs.Conflicts.{is_wanted_to_write}
 use Rattle.el_model.specs.Plain.{candidate_of}
@@ -18,7 +20,8 @@ use Rattle.el_model.specs.Serve.{others_have, own_copy, with_claim}
 use Rattle.el_model.specs.State.{Armed, Hart, ModelState, Section, cache_of, hart_of}
 use Rattle.el_model.proofs.Laws.HartParts.{candidate_armed}
 use Rattle.section_laws.specs.EachHart.{HasNoOtherBit}
-use Rattle.section_laws.proofs.Laws.Bits.{NoBitMore, no_more_marked, no_more_others, no_more_own, no_more_touched, no_more_twice}
+use Rattle.section_laws.proofs.Laws.Bits.{NoBitMore, no_more_marked, no_more_others, no_more_own, no_more_touched}
+use Rattle.section_laws.proofs.Laws.Bits.{no_more_twice}
 use Rattle.section_laws.proofs.Laws.Bits.{write_of_read_marked}
 use Rattle.section_laws.proofs.Laws.EachKept.{BusKept, EachKept}
 use Rattle.section_laws.proofs.OnlyInside as inside
@@ -38,7 +41,8 @@ pub same_word : {one other : Armed} → Some one ≡ Some other → one.word ≡
 same_word {one} {other} is = let same : one ≡ other = cc in ap (λ armed. armed.word) same
 
 -- a cache with no more bits
-fewer_bits : (word : ℕ) (old new : List (List Way)) → ((line : ℕ) → NoBitMore old new line) → HasNoOtherBit word old → HasNoOtherBit word new
+fewer_bits : (word : ℕ) (old new : List (List Way)) → ((line : ℕ) → NoBitMore old new line) → HasNoOtherBit word old →
+    HasNoOtherBit word new
 fewer_bits word old new no_more was = record {
   unwritten = λ line.
       false_from_ne_true (write_bit new line) (λ is. clash (was.unwritten line) ((no_more line).write is));
@@ -52,12 +56,15 @@ armed_bits : (cache : List (List Way)) (word : ℕ) → has_marks cache ≡ fals
 armed_bits cache word bare = record {
   unwritten = λ line.
       false_from_ne_true (write_bit new line)
-      (λ is. clash (none line).1 (old_write line (cases_eq line (line_number word)) ((no_more_touched reads (line_number word) line).write is)));
+      (λ is. clash (none line).1
+      (old_write line (cases_eq line (line_number word))
+      ((no_more_touched reads (line_number word) line).write is)));
   alone = λ line other.
       false_from_ne_true (read_bit new line)
       (λ is.
       clash (none line).0
-      ((no_more_marked cache (line_number word) line Read other).read ((no_more_touched reads (line_number word) line).read is)));
+      ((no_more_marked cache (line_number word) line Read other).read
+      ((no_more_touched reads (line_number word) line).read is)));
 }
   where
     reads : List (List Way)
@@ -77,8 +84,9 @@ armed_bits cache word bare = record {
     old_write line (inr other) is = (no_more_marked cache (line_number word) line Read other).write is
 
 -- a request is served
-claim_alone : (live : Option Section) (request : Request) (hart new : Hart) → hart.section ≡ live → new.section ≡ hart.section →
-    new.armed ≡ hart.armed → ((line : ℕ) → NoBitMore hart.cache new.cache line) → Alone hart → Alone (with_claim (is_some live) request new)
+claim_alone : (live : Option Section) (request : Request) (hart new : Hart) → hart.section ≡ live →
+    new.section ≡ hart.section → new.armed ≡ hart.armed → ((line : ℕ) → NoBitMore hart.cache new.cache line) →
+    Alone hart → Alone (with_claim (is_some live) request new)
 claim_alone None request hart new is section same no_more now armed armed_is =
     let reads = now armed (sym same ∙ armed_is) in
     record {
@@ -117,7 +125,8 @@ deed_alone state h (Elides armed swap) does now = λ other is. none_some is
 deed_alone state h (Continues before) continues now = λ armed is. record {
   no_section = continues.is_armed.no_section;
   no_other =
-      subst (λ w. HasNoOtherBit w (cache_of state h)) (same_word is) (now.1 before continues.is_armed.armed_is).no_other;
+      subst (λ w. HasNoOtherBit w (cache_of state h)) (same_word is)
+      (now.1 before continues.is_armed.armed_is).no_other;
 }
 deed_alone state h (LetsGo armed) does now = λ other is. none_some is
 
@@ -148,7 +157,8 @@ kept = record {
             no_section = reads.no_section;
             no_other =
                 fewer_bits armed.word hart.cache _
-                (no_more_others (is_resident (cache_of state request.hart) request.line) request.need hart.cache request.line) reads.no_other;
+                (no_more_others (is_resident (cache_of state request.hart) request.line) request.need hart.cache
+                request.line) reads.no_other;
           },
     );
   };
@@ -165,7 +175,8 @@ pub record IsCompleting (state : ModelState) (h : ℕ) (armed : Armed) (swap : S
   pub changes : changes_word swap ≡ true
   pub unwanted : is_wanted_to_write state h (line_number armed.word) ≡ false
 
-pub completing : (state : ModelState) (h : ℕ) (armed : Armed) (swap : Swap) → completes state h armed swap ≡ true → IsCompleting state h armed swap
+pub completing : (state : ModelState) (h : ℕ) (armed : Armed) (swap : Swap) → completes state h armed swap ≡ true →
+    IsCompleting state h armed swap
 completing state h armed swap is =
     let first = first_of_both (swap.word == armed.word && changes_word swap) (not wanted) is in
     record {

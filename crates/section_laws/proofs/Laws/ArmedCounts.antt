@@ -10,7 +10,8 @@ use Rattle.el_base.specs.declared.events.Event.{Event}
 use Rattle.el_base.proofs.Laws.Cases.{none_some}
 use Rattle.elf_image.specs.Program.{Program}
 use Rattle.el_model.specs.Armed.{may_grow}
-use Rattle.el_model.specs.Deed.{Arms, Begins, Buffers, Commits, Continues, Deed, DoesWhere, Elides, LetsGo, Misses, Rests, RollsBack, Runs, Waits, hart_after}
+use Rattle.el_model.specs.Deed.{Arms, Begins, Buffers, Commits, Continues, Deed, DoesWhere, Elides, LetsGo, Misses}
+use Rattle.el_model.specs.Deed.{Rests, RollsBack, Runs, Waits, hart_after}
 use Rattle.el_model.specs.Next.{next}
 use Rattle.el_model.specs.Plain.{candidate_of}
 use Rattle.el_model.specs.State.{Armed, Hart, ModelState, begin, hart_of, new_hart}
@@ -43,16 +44,16 @@ kept long = record {
 }
 
 -- one more instruction
-grown : (state : ModelState) (long : ℕ) (armed : Armed) → state.config.long ≡ long → may_grow state armed ≡ true → IsShortArmed long armed →
-    IsShortArmed long (record armed { count = suc armed.count })
+grown : (state : ModelState) (long : ℕ) (armed : Armed) → state.config.long ≡ long → may_grow state armed ≡ true →
+    IsShortArmed long armed → IsShortArmed long (record armed { count = suc armed.count })
 grown state long armed is grows now =
     let tests = and_parts (nat_lt armed.count 15) (nat_lt (suc armed.count) state.config.long) grows in
     let few = ltb-true armed.count 15 tests.0 in
     let below = ltb-true (suc armed.count) state.config.long tests.1 in
     record { some = omega arith; few = omega (arith, few); within = omega (arith, below, is) }
 
-deed_short : (state : ModelState) (long h : ℕ) (deed : Deed) → state.config.long ≡ long → 2 ≤ long → DoesWhere state h deed →
-    Short long (hart_of state h) → Short long (hart_after state h deed (hart_of state h))
+deed_short : (state : ModelState) (long h : ℕ) (deed : Deed) → state.config.long ≡ long → 2 ≤ long →
+    DoesWhere state h deed → Short long (hart_of state h) → Short long (hart_after state h deed (hart_of state h))
 deed_short state long h Rests is two does now = now
 deed_short state long h Waits is two does now = now
 deed_short state long h (Misses line need) is two does now = now
@@ -76,10 +77,12 @@ record Within (long : ℕ) (state : ModelState) : Type 0 where
   two : 2 ≤ long
   each : Each (λ h hart. Short long hart) state
 
-next_short : (state : ModelState) (long : ℕ) (event : Event) → Within long state → Each (λ h hart. Short long hart) (next state event).state
+next_short : (state : ModelState) (long : ℕ) (event : Event) → Within long state →
+    Each (λ h hart. Short long hart) (next state event).state
 next_short state long event now =
     let h = event.hart.number in
-    event_keeps (kept long) state event (λ deed does. deed_short state long h deed now.long_is now.two does (now.each h)) now.each
+    event_keeps (kept long) state event
+    (λ deed does. deed_short state long h deed now.long_is now.two does (now.each h)) now.each
 
 next_within : (long : ℕ) (state : ModelState) (event : Event) → Within long state → Within long (next state event).state
 next_within long state event now = record {
@@ -94,9 +97,11 @@ first_within program config range = record {
   long_is = refl;
   two = at_least 2 65536 config.long (ranges config range).long;
   each = λ h.
-      all_first (Short config.long) program.harts (new_hart config.sets) (new_hart 0) (λ armed is. none_some is) (λ armed is. none_some is) h;
+      all_first (Short config.long) program.harts (new_hart config.sets) (new_hart 0) (λ armed is. none_some is)
+      (λ armed is. none_some is) h;
 }
 
 pub armed_sections_are_short : ArmedSectionsAreShort
 armed_sections_are_short program config events range h armed is =
-    (kept_after (Within config.long) (next_within config.long) (begin program config) events (first_within program config range)).each h armed is
+    (kept_after (Within config.long) (next_within config.long) (begin program config) events
+    (first_within program config range)).each h armed is

@@ -1,12 +1,16 @@
 -- which sections meet a request, and how a change of a cache leaves no bit more
-use Rattle.std.proofs.Common.{◌≡◌, ◌≢◌, ◌∙◌, ◌≤◌, ◌==◌, ◌&&◌, ◌||◌, ℕ, Bool, true, false, not, List, [], ◌∷◌, Option, None, Some, is_some, option_map}
+use Rattle.std.proofs.Common.{◌≡◌, ◌≢◌, ◌∙◌, ◌≤◌, ◌==◌, ◌&&◌, ◌||◌, ℕ, Bool, true, false, not, List, [], ◌∷◌, Option}
+use Rattle.std.proofs.Common.{None, Some, is_some, option_map}
 use Rattle.std.proofs.Common.{refl, ap, sym, inl, inr, ◌⊎◌, arith}
 use Rattle.std.proofs.lemmas.Bool.{and_from, cases_eq, or_left, or_right}
 use Rattle.bus_order.specs.Order.{Request}
-use Rattle.residency.specs.Cache.{bit_in, cleared, filled_with, has_bit, is_resident, letter_of, lettered, marked, touched, way_of, without_line}
+use Rattle.residency.specs.Cache.{bit_in, cleared, filled_with, has_bit, is_resident, letter_of, lettered, marked}
+use Rattle.residency.specs.Cache.{touched, way_of, without_line}
 use Rattle.residency.specs.Residency.{Way, with_bit, with_letter, without_bits}
-use Rattle.residency.proofs.Laws.CacheLemmas.{way_of-cleared, way_of-filled_with_same, way_of-lettered_other, way_of-lettered_same}
-use Rattle.residency.proofs.Laws.CacheLemmas.{way_of-marked_other, way_of-marked_same, way_of-touched, way_of-without_line_other}
+use Rattle.residency.proofs.Laws.CacheLemmas.{way_of-cleared, way_of-filled_with_same, way_of-lettered_other}
+use Rattle.residency.proofs.Laws.CacheLemmas.{way_of-lettered_same}
+use Rattle.residency.proofs.Laws.CacheLemmas.{way_of-marked_other, way_of-marked_same, way_of-touched}
+use Rattle.residency.proofs.Laws.CacheLemmas.{way_of-without_line_other}
 use Rattle.residency.proofs.Laws.CacheLemmas.{way_of-without_line_same}
 use Rattle.el_base.specs.declared.outcomes.Need.{Need}
 use Rattle.el_base.specs.declared.outcomes.Need.TheVariants.{Read, Write}
@@ -35,11 +39,16 @@ pub record Meets (request : Request) (h : ℕ) (hart : Hart) : Type 0 where
 
 pub meets : (request : Request) (h : ℕ) (hart : Hart) → conflicts request h hart ≡ true → Meets request h hart
 meets request h hart is =
-    let other_and_live = first_of_both (not (request.hart == h) && is_some hart.section) (meets_bit hart request.line request.need) is in
+    let other_and_live =
+    first_of_both (not (request.hart == h) && is_some hart.section) (meets_bit hart request.line request.need) is in
     record {
-      other = λ same. clash (ap not (own_test h)) (ap (λ k. not (k == h)) (sym same) ∙ first_of_both _ (is_some hart.section) other_and_live);
+      other =
+          λ same. clash (ap not (own_test h))
+          (ap (λ k. not (k == h)) (sym same) ∙ first_of_both _ (is_some hart.section) other_and_live);
       live = second_of_both (not (request.hart == h)) (is_some hart.section) other_and_live;
-      bit = second_of_both (not (request.hart == h) && is_some hart.section) (meets_bit hart request.line request.need) is;
+      bit =
+          second_of_both (not (request.hart == h) && is_some hart.section)
+          (meets_bit hart request.line request.need) is;
     }
 
 pub in_the_way : (request : Request) (h : ℕ) (hart : Hart) → Meets request h hart → conflicts request h hart ≡ true
@@ -82,7 +91,8 @@ lettered_bits : (letter : Letter) (way : Option Way) → NoMore way (option_map 
 lettered_bits letter None = no_more_none None
 lettered_bits letter (Some way) = record { read = λ is. is; write = λ is. is }
 
-no_more_lettered : (cache : List (List Way)) (line l : ℕ) (letter : Letter) → NoBitMore cache (lettered cache line letter) l
+no_more_lettered : (cache : List (List Way)) (line l : ℕ) (letter : Letter) →
+    NoBitMore cache (lettered cache line letter) l
 no_more_lettered cache line l letter = at (cases_eq l line)
   where
     at : (l ≡ line) ⊎ (l ≡ line → ⊥) → NoBitMore cache (lettered cache line letter) l
@@ -103,7 +113,8 @@ no_more_without cache line l = at (cases_eq l line)
     at (inl same) = rw same (rw (way_of-without_line_same cache line) (no_more_none (way_of cache line)))
     at (inr other) = no_more_equal (way_of cache l) _ (way_of-without_line_other cache line l other)
 
-no_more_filled : (ways : ℕ) (cache : List (List Way)) (line l : ℕ) (letter : Letter) → NoBitMore cache (filled_with ways cache line letter) l
+no_more_filled : (ways : ℕ) (cache : List (List Way)) (line l : ℕ) (letter : Letter) →
+    NoBitMore cache (filled_with ways cache line letter) l
 no_more_filled ways cache line l letter = at (cases_eq l line)
   where
     own : (cache : List (List Way)) → NoBitMore cache (filled_with ways cache line letter) line
@@ -112,7 +123,8 @@ no_more_filled ways cache line l letter = at (cases_eq l line)
         rw (way_of-filled_with_same ways (first ∷ sets) line letter (omega arith))
         (record { read = λ is. absurd (cc); write = λ is. absurd (cc) })
 
-    other_line : StaysOrLeaves (way_of cache l) (way_of (filled_with ways cache line letter) l) → NoBitMore cache (filled_with ways cache line letter) l
+    other_line : StaysOrLeaves (way_of cache l) (way_of (filled_with ways cache line letter) l) →
+        NoBitMore cache (filled_with ways cache line letter) l
     other_line (inl same) = no_more_equal (way_of cache l) _ same
     other_line (inr left) = rw left (no_more_none (way_of cache l))
 
@@ -123,7 +135,8 @@ no_more_filled ways cache line l letter = at (cases_eq l line)
 pub no_more_own : (ways : ℕ) (others : Bool) (need : Need) (cache : List (List Way)) (line l : ℕ) →
     NoBitMore cache (own_copy ways others need cache line) l
 no_more_own ways others need cache line l =
-    by_test (λ new. NoBitMore cache new l) (is_resident cache line) (lettered cache line (kept_letter need (letter_of cache line)))
+    by_test (λ new. NoBitMore cache new l) (is_resident cache line)
+    (lettered cache line (kept_letter need (letter_of cache line)))
     (filled_with ways cache line (filled_of need others)) (λ had. no_more_lettered cache line l _)
     (λ new. no_more_filled ways cache line l _)
 
@@ -131,12 +144,14 @@ no_more_given : (need : Need) (cache : List (List Way)) (line l : ℕ) → NoBit
 no_more_given Write cache line l = no_more_without cache line l
 no_more_given Read cache line l = no_more_lettered cache line l (on_read_of (letter_of cache line))
 
-pub no_more_others : (had : Bool) (need : Need) (cache : List (List Way)) (line l : ℕ) → NoBitMore cache (others_cache had need cache line) l
+pub no_more_others : (had : Bool) (need : Need) (cache : List (List Way)) (line l : ℕ) →
+    NoBitMore cache (others_cache had need cache line) l
 no_more_others had Write cache line l = no_more_given Write cache line l
 no_more_others true Read cache line l = no_more_same (way_of cache l)
 no_more_others false Read cache line l = no_more_given Read cache line l
 
-pub no_more_marked : (cache : List (List Way)) (line l : ℕ) (need : Need) → l ≢ line → NoBitMore cache (marked cache line need) l
+pub no_more_marked : (cache : List (List Way)) (line l : ℕ) (need : Need) → l ≢ line →
+    NoBitMore cache (marked cache line need) l
 no_more_marked cache line l need other = no_more_equal (way_of cache l) _ (way_of-marked_other cache line l need other)
 
 read_marked : (way : Option Way) → bit_in Write (option_map (with_bit Read) way) ≡ true → bit_in Write way ≡ true
@@ -144,8 +159,8 @@ read_marked None is = absurd (cc)
 read_marked (Some way) is = is
 
 -- a read bit that is set sets no write bit
-pub write_of_read_marked : (cache : List (List Way)) (line : ℕ) → bit_in Write (way_of (marked cache line Read) line) ≡ true →
-    bit_in Write (way_of cache line) ≡ true
+pub write_of_read_marked : (cache : List (List Way)) (line : ℕ) →
+    bit_in Write (way_of (marked cache line Read) line) ≡ true → bit_in Write (way_of cache line) ≡ true
 write_of_read_marked cache line = rw (way_of-marked_same cache line Read) (read_marked (way_of cache line))
 
 -- on a line a hart's section has no bit more than before, and there is none where there was none
@@ -171,18 +186,22 @@ fewer_twice line one two three first second = record {
   bits = λ live. no_more_twice _ (way_of two.cache line) _ (first.bits (second.live live)) (second.bits live);
 }
 
-pub meets_no_more : (old new : Hart) (line : ℕ) (need : Need) → NoBitMore old.cache new.cache line → meets_bit new line need ≡ true →
-    meets_bit old line need ≡ true
+pub meets_no_more : (old new : Hart) (line : ℕ) (need : Need) → NoBitMore old.cache new.cache line →
+    meets_bit new line need ≡ true → meets_bit old line need ≡ true
 meets_no_more old new line Write no_more is = no_more_any (way_of old.cache line) (way_of new.cache line) no_more is
 meets_no_more old new line Read no_more is = no_more.write is
 
-pub fewer_conflicts : (request : Request) (h : ℕ) (old new : Hart) → Fewer request.line old new → conflicts request h new ≡ true →
-    conflicts request h old ≡ true
+pub fewer_conflicts : (request : Request) (h : ℕ) (old new : Hart) → Fewer request.line old new →
+    conflicts request h new ≡ true → conflicts request h old ≡ true
 fewer_conflicts request h old new fewer is =
     let it = meets request h new is in
     in_the_way request h old
-    (record { other = it.other; live = fewer.live it.live; bit = meets_no_more old new request.line request.need (fewer.bits it.live) it.bit })
+    (record {
+      other = it.other;
+      live = fewer.live it.live;
+      bit = meets_no_more old new request.line request.need (fewer.bits it.live) it.bit;
+    })
 
-pub fewer_bit : (line : ℕ) (old new : Hart) → Fewer line old new → is_some new.section ≡ true → has_bit new.cache line ≡ true →
-    has_bit old.cache line ≡ true
+pub fewer_bit : (line : ℕ) (old new : Hart) → Fewer line old new → is_some new.section ≡ true →
+    has_bit new.cache line ≡ true → has_bit old.cache line ≡ true
 fewer_bit line old new fewer live is = no_more_any (way_of old.cache line) (way_of new.cache line) (fewer.bits live) is

@@ -22,8 +22,10 @@ use Rattle.section_laws.proofs.Laws.Moves.{Moves, moved, step_keeps, taken_keeps
 pub record BusKept (P : ℕ → Hart → Type 0) : Type 0 where
   pub moves : Moves P
   pub unraised : (h : ℕ) (hart : Hart) → P h hart → P h (record hart { raised = None })
-  pub served : (h : ℕ) (state : ModelState) (request : Request) (hart : Hart) → P h hart → P h (served_hart state request hart)
-  pub bystander : (h : ℕ) (state : ModelState) (request : Request) (hart : Hart) → P h hart → P h (bystander state request hart)
+  pub served : (h : ℕ) (state : ModelState) (request : Request) (hart : Hart) → P h hart →
+      P h (served_hart state request hart)
+  pub bystander : (h : ℕ) (state : ModelState) (request : Request) (hart : Hart) → P h hart →
+      P h (bystander state request hart)
 
 module _ {P : ℕ → Hart → Type 0} (kept : BusKept P) where
   started_keeps : (state : ModelState) (by : ℕ) (start : Start) (h : ℕ) (hart : Hart) → P h hart →
@@ -32,16 +34,19 @@ module _ {P : ℕ → Hart → Type 0} (kept : BusKept P) where
   started_keeps state by (Places request place) h hart now =
       by_hart (P h) h request.hart (record hart { raised = None }) hart (λ own. kept.unraised h hart now) (λ other. now)
   started_keeps state by (Serves request) h hart now =
-      by_hart (P h) h request.hart (served_hart state request hart) (bystander state request hart) (λ own. kept.served h state request hart now)
+      by_hart (P h) h request.hart (served_hart state request hart) (bystander state request hart)
+      (λ own. kept.served h state request hart now)
       (λ other. kept.bystander h state request hart now)
   started_keeps state by (Takes message others) h hart now =
-      by_hart (P h) h by (having_taken message others hart) hart (λ own. taken_keeps kept.moves message others h hart now) (λ other. now)
+      by_hart (P h) h by (having_taken message others hart) hart
+      (λ own. taken_keeps kept.moves message others h hart now) (λ other. now)
 
   pub becomes_keeps : (state : ModelState) (by : ℕ) (start : Start) (h : ℕ) {lost : Option ℕ} {hart : Hart} →
       P h (hart_of state h) →
       Becomes state by start h lost hart → P h hart
   becomes_keeps state by start h now becomes =
-      moved kept.moves state by start h (λ past. now) (λ below. started_keeps state by start h (hart_of state h) now) becomes
+      moved kept.moves state by start h (λ past. now)
+      (λ below. started_keeps state by start h (hart_of state h) now) becomes
 
   pub turn_keeps : {state : ModelState} {by : ℕ} {turn : Turn} → IsBusEvent state by turn → Each P state →
       Each P turn.state
@@ -50,11 +55,14 @@ module _ {P : ℕ → Hart → Type 0} (kept : BusKept P) where
   -- so does every event where its hart's deeds do
   pub event_keeps : (state : ModelState) (event : Event) →
       ((deed : Deed) → DoesWhere state event.hart.number deed →
-      P event.hart.number (hart_after state event.hart.number deed (hart_of state event.hart.number))) → Each P state → Each P (next state event).state
+      P event.hart.number (hart_after state event.hart.number deed (hart_of state event.hart.number))) → Each P state →
+      Each P (next state event).state
   event_keeps state event deeds each =
-      by_event (λ turn. Each P turn.state) state event (λ step. step_keeps P state event.hart.number deeds each) (λ turn done. turn_keeps done each)
+      by_event (λ turn. Each P turn.state) state event (λ step. step_keeps P state event.hart.number deeds each)
+      (λ turn done. turn_keeps done each)
 
-  pub bus_keeps : (state : ModelState) (h : ℕ) (kind : Kind) → kind ≢ kinds.Step → Each P state → Each P (kind_turn state h kind).state
+  pub bus_keeps : (state : ModelState) (h : ℕ) (kind : Kind) → kind ≢ kinds.Step → Each P state →
+      Each P (kind_turn state h kind).state
   bus_keeps state h kind bus each = turn_keeps (bus_event state h kind bus) each
 
 -- and by a hart's own deeds, and holds of a hart before its first event
@@ -68,13 +76,15 @@ module _ {P : Hart → Type 0} (kept : EachKept P) where
   pub next_keeps : (state : ModelState) (event : Event) → Each (λ h hart. P hart) state →
       Each (λ h hart. P hart) (next state event).state
   next_keeps state event each =
-      event_keeps kept.bus state event (λ deed does. kept.deed state event.hart.number deed does (each event.hart.number)) each
+      event_keeps kept.bus state event
+      (λ deed does. kept.deed state event.hart.number deed does (each event.hart.number)) each
 
   pub first_each : (program : Program) (config : Config) → Each (λ h hart. P hart) (begin program config)
   unfolding begin
   first_each program config h =
       all_first P program.harts (new_hart config.sets) (new_hart 0) (kept.new config.sets) (kept.new 0) h
 
-  pub always_each : (program : Program) (config : Config) (events : List Event) → Each (λ h hart. P hart) (after program config events)
+  pub always_each : (program : Program) (config : Config) (events : List Event) →
+      Each (λ h hart. P hart) (after program config events)
   always_each program config events =
       kept_after (Each (λ h hart. P hart)) next_keeps (begin program config) events (first_each program config)

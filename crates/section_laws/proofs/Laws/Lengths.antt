@@ -9,7 +9,8 @@ use Rattle.el_base.specs.declared.events.Event.{Event}
 use Rattle.el_base.specs.Freed.{order_of}
 use Rattle.elf_image.specs.Program.{Program}
 use Rattle.el_model.specs.BusEvent.{IsBusEvent, freed_in}
-use Rattle.el_model.specs.Deed.{Arms, Begins, Buffers, Commits, Continues, Deed, Elides, LetsGo, Misses, Rests, RollsBack, Runs, Waits, committed_after}
+use Rattle.el_model.specs.Deed.{Arms, Begins, Buffers, Commits, Continues, Deed, Elides, LetsGo, Misses, Rests}
+use Rattle.el_model.specs.Deed.{RollsBack, Runs, Waits, committed_after}
 use Rattle.el_model.specs.Next.{next, step_turn}
 use Rattle.el_model.specs.State.{ModelState, Turn, begin, new_hart}
 use Rattle.el_model.proofs.Laws.BusEvents.{by_event}
@@ -23,7 +24,8 @@ use Rattle.rv_alu.specs.declared.view.HartStatus.TheVariants.{Running}
 abbrev pub AsMany : ModelState → Type 0
 AsMany state = length state.harts ≡ length state.committed.harts
 
-committed_count : (state : ModelState) (h : ℕ) (deed : Deed) → length (committed_after state h deed).harts ≡ length state.committed.harts
+committed_count : (state : ModelState) (h : ℕ) (deed : Deed) →
+    length (committed_after state h deed).harts ≡ length state.committed.harts
 committed_count state h Rests = refl
 committed_count state h Waits = refl
 committed_count state h (Misses line need) = refl
@@ -50,7 +52,8 @@ step_as_many state h same =
 
 pub next_as_many : (state : ModelState) (event : Event) → AsMany state → AsMany (next state event).state
 next_as_many state event same =
-    by_event (λ turn. AsMany turn.state) state event (λ step. step_as_many state event.hart.number same) (λ turn done. bus_as_many done same)
+    by_event (λ turn. AsMany turn.state) state event (λ step. step_as_many state event.hart.number same)
+    (λ turn done. bus_as_many done same)
 
 pub first_as_many : (program : Program) (config : Config) → AsMany (begin program config)
 unfolding begin start

@@ -1,6 +1,7 @@
--- what an event of the bus does to each hart after its start, as a few moves: it is posted messages, is told of origins, has harts before
--- it, sees stamps, loses its live section or has its armed one let go
-use Rattle.std.proofs.Common.{◌≡◌, ◌<◌, ◌≤◌, ℕ, Bool, true, false, ◌&&◌, not, List, [], ◌∷◌, Option, None, Some, is_some, length, refl}
+-- what an event of the bus does to each hart after its start, as a few moves: it is posted messages, is told of
+-- origins, has harts before it, sees stamps, loses its live section or has its armed one let go
+use Rattle.std.proofs.Common.{◌≡◌, ◌<◌, ◌≤◌, ℕ, Bool, true, false, ◌&&◌, not, List, [], ◌∷◌, Option, None, Some}
+use Rattle.std.proofs.Common.{is_some, length, refl}
 use Rattle.std.proofs.Common.{if◌then◌else◌, ◌==◌, ◌+◌, arith}
 use Rattle.bus_order.specs.Order.{Request}
 use Rattle.residency.specs.Cache.{has_bit}
@@ -9,10 +10,12 @@ use Rattle.el_base.specs.declared.config.Mode.{Mode}
 use Rattle.el_base.specs.declared.config.Mode.TheVariants.{Plain, Sle, Tlr}
 use Rattle.el_model.specs.Armed.{is_freed, let_go_hart}
 use Rattle.el_model.specs.Attempts.{seen_after}
-use Rattle.el_model.specs.BusEvent.{Becomes, IsAbsent, IsLetGo, IsSent, LosesIt, Sees, Start, Starts, having_taken, started}
+use Rattle.el_model.specs.BusEvent.{Becomes, IsAbsent, IsLetGo, IsSent, LosesIt, Sees, Start, Starts, having_taken}
+use Rattle.el_model.specs.BusEvent.{started}
 use Rattle.el_model.specs.Conflicts.{is_write}
 use Rattle.el_model.specs.Deed.{Deed, DoesWhere, hart_after}
-use Rattle.el_model.specs.Face.{Fate, LosesTo, Stays, Unmet, after_fate, deferring, faced, faced_hart, fate_of, markers_for, winning_stamp}
+use Rattle.el_model.specs.Face.{Fate, LosesTo, Stays, Unmet, after_fate, deferring, faced, faced_hart, fate_of}
+use Rattle.el_model.specs.Face.{markers_for, winning_stamp}
 use Rattle.el_model.specs.Next.{step_turn}
 use Rattle.el_model.specs.RollBack.{beaten, most_tries, out_of_section}
 use Rattle.el_model.specs.State.{Hart, ModelState, hart_of, post_all}
@@ -32,7 +35,8 @@ pub record Moves (P : ℕ → Hart → Type 0) : Type 0 where
   pub lost : (h : ℕ) (hart : Hart) → P h hart → P h (out_of_section hart)
   pub freed : (h pc : ℕ) (hart : Hart) → P h hart → P h (let_go_hart pc hart)
   pub gave_up : (h : ℕ) (hart : Hart) → P h hart → P h (record hart { tries = 0; fallback = true })
-  pub tried : (h : ℕ) (hart : Hart) → (hart.tries + 1 == most_tries) ≡ false → P h hart → P h (record hart { tries = hart.tries + 1 })
+  pub tried : (h : ℕ) (hart : Hart) → (hart.tries + 1 == most_tries) ≡ false → P h hart →
+      P h (record hart { tries = hart.tries + 1 })
 
 -- a hart that sees a stamp has seen no less than before
 pub seen_grows : (seen : ℕ) (stamp : Option Stamp) → seen ≤ seen_after seen stamp
@@ -41,7 +45,8 @@ seen_grows seen (Some stamp) = omega arith
 
 -- a hart that is let go is armed
 pub freed_is_armed : (head : Request) (h : ℕ) (hart : Hart) → is_freed head h hart ≡ true → is_some hart.armed ≡ true
-freed_is_armed head h hart = by (is_write head) (not (head.hart == h)) (is_some hart.armed) (has_bit hart.cache head.line)
+freed_is_armed head h hart =
+    by (is_write head) (not (head.hart == h)) (is_some hart.armed) (has_bit hart.cache head.line)
   where
     by : (a b c d : Bool) → (a && b && c && d) ≡ true → c ≡ true
     by true true true d freed = refl
@@ -57,20 +62,25 @@ module _ {P : ℕ → Hart → Type 0} (moves : Moves P) where
 
   beaten_keeps : (mode : Mode) (winner : Option Stamp) (h : ℕ) (hart : Hart) → P h hart → P h (beaten mode winner hart)
   beaten_keeps Tlr winner h hart now =
-      moves.saw h (out_of_section hart) (seen_after hart.seen winner) (seen_grows hart.seen winner) (moves.lost h hart now)
-  beaten_keeps Sle winner h hart now = try_keeps h (out_of_section hart) (hart.tries + 1 == most_tries) refl (moves.lost h hart now)
-  beaten_keeps Plain winner h hart now = try_keeps h (out_of_section hart) (hart.tries + 1 == most_tries) refl (moves.lost h hart now)
+      moves.saw h (out_of_section hart) (seen_after hart.seen winner) (seen_grows hart.seen winner)
+      (moves.lost h hart now)
+  beaten_keeps Sle winner h hart now =
+      try_keeps h (out_of_section hart) (hart.tries + 1 == most_tries) refl (moves.lost h hart now)
+  beaten_keeps Plain winner h hart now =
+      try_keeps h (out_of_section hart) (hart.tries + 1 == most_tries) refl (moves.lost h hart now)
 
   pub taken_keeps : (message : Message) (others : List Message) (h : ℕ) (hart : Hart) → P h hart →
       P h (having_taken message others hart)
   taken_keeps (Marker sender) others h hart now =
-      moves.preceded h (record hart { mail = others }) (included hart.upstream sender) (moves.posted_to h hart others now)
+      moves.preceded h (record hart { mail = others }) (included hart.upstream sender)
+      (moves.posted_to h hart others now)
   taken_keeps (Probe origin) others h hart now =
       moves.told h (record hart { mail = others }) (included hart.told origin) (moves.posted_to h hart others now)
 
   -- what holds after the start of an event holds after it
   pub moved : (state : ModelState) (by : ℕ) (start : Start) (h : ℕ) {lost : Option ℕ} {hart : Hart} →
-      (length state.harts ≤ h → P h (hart_of state h)) → (h < length state.harts → P h (started state by start h (hart_of state h))) →
+      (length state.harts ≤ h → P h (hart_of state h)) →
+      (h < length state.harts → P h (started state by start h (hart_of state h))) →
       Becomes state by start h lost hart → P h hart
   moved state by start h absent begun (IsAbsent past) = absent past
   moved state by start h absent begun (Starts below) = begun below
@@ -79,7 +89,8 @@ module _ {P : ℕ → Hart → Type 0} (moves : Moves P) where
   moved state by start h absent begun (IsLetGo head hart frees now) =
       moves.freed h (view_of state.committed h).pc hart (moved state by start h absent begun now)
   moved state by start h absent begun (Sees head lost hart defers now) =
-      moves.saw h hart (seen_after hart.seen head.stamp) (seen_grows hart.seen head.stamp) (moved state by start h absent begun now)
+      moves.saw h hart (seen_after hart.seen head.stamp) (seen_grows hart.seen head.stamp)
+      (moved state by start h absent begun now)
   moved state by start h absent begun (LosesIt winner stamp hart loses now) =
       beaten_keeps state.config.mode stamp h hart (moved state by start h absent begun now)
 
@@ -87,14 +98,17 @@ module _ {P : ℕ → Hart → Type 0} (moves : Moves P) where
   posted_keep : (h : ℕ) (hart : Hart) (messages : List Message) → P h hart → P h (post_all hart messages)
   posted_keep h hart [] now = now
   posted_keep h hart (message ∷ messages) now =
-      posted_keep h (record hart { mail = posted hart.mail message }) messages (moves.posted_to h hart (posted hart.mail message) now)
+      posted_keep h (record hart { mail = posted hart.mail message }) messages
+      (moves.posted_to h hart (posted hart.mail message) now)
 
-  deferring_keeps : (mode : Mode) (stamp : Option Stamp) (h : ℕ) (hart : Hart) → P h hart → P h (deferring mode stamp hart)
+  deferring_keeps : (mode : Mode) (stamp : Option Stamp) (h : ℕ) (hart : Hart) → P h hart →
+      P h (deferring mode stamp hart)
   deferring_keeps Tlr stamp h hart now = moves.saw h hart (seen_after hart.seen stamp) (seen_grows hart.seen stamp) now
   deferring_keeps Sle stamp h hart now = now
   deferring_keeps Plain stamp h hart now = now
 
-  fate_keeps : (state : ModelState) (head : Request) (fate : Fate) (h : ℕ) (hart : Hart) → P h hart → P h (after_fate state head fate hart)
+  fate_keeps : (state : ModelState) (head : Request) (fate : Fate) (h : ℕ) (hart : Hart) → P h hart →
+      P h (after_fate state head fate hart)
   fate_keeps state head Unmet h hart now = now
   fate_keeps state head Stays h hart now = deferring_keeps state.config.mode head.stamp h hart now
   fate_keeps state head (LosesTo winner) h hart now =

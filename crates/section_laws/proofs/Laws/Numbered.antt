@@ -1,5 +1,6 @@
 -- no hart has two requests in order, and each request is of a hart that a machine may have
-use Rattle.std.proofs.Common.{◌≡◌, ◌∙◌, ◌<◌, ◌≤◌, ◌==◌, ℕ, Bool, true, false, List, [], ◌∷◌, None, Some, length, refl, ap, sym, arith}
+use Rattle.std.proofs.Common.{◌≡◌, ◌∙◌, ◌<◌, ◌≤◌, ◌==◌, ℕ, Bool, true, false, List, [], ◌∷◌, None, Some, length, refl}
+use Rattle.std.proofs.Common.{ap, sym, arith}
 use Rattle.std.specs.Prelude.{nat_lt}
 use Rattle.std.proofs.lemmas.Bool.{ltb-true, ltb-false}
 use Rattle.std.proofs.Math.ListN.{length-set}
@@ -24,21 +25,23 @@ use Rattle.el_model.proofs.Laws.Harts.{hart_of-past}
 use Rattle.el_model.proofs.Laws.Tests.{by_test}
 use Rattle.el_model.proofs.Laws.Restoring.{removed_numbered}
 use Rattle.section_laws.specs.Laws.{EachHartWaitsForOne, OneOrderedRequestEach, RequestsAreNumbered}
-use Rattle.section_laws.proofs.Laws.Waiting.{Rested, Sound, always_settled, always_sound, free_of_order, next_settled, rested_in, settled_by}
+use Rattle.section_laws.proofs.Laws.Waiting.{Rested, Sound, always_settled, always_sound, free_of_order, next_settled}
+use Rattle.section_laws.proofs.Laws.Waiting.{rested_in, settled_by}
 use Rattle.section_laws.proofs.Laws.Waiting.{sound_in}
 
 -- no event changes how many harts there are
 pub next_count : (state : ModelState) (event : Event) → length (next state event).state.harts ≡ length state.harts
 next_count state event =
     by_event (λ turn. length turn.state.harts ≡ length state.harts) state event
-    (λ is. let step = step_deed state event.hart.number in rw step.turn_is (length-set state.harts event.hart.number _)) (λ turn done. done.count)
+    (λ is. let step = step_deed state event.hart.number in rw step.turn_is (length-set state.harts event.hart.number _))
+    (λ turn done. done.count)
 
 -- what is kept of the order: by a request of a hart that has none, and as one is served
 pub record KeptInOrder (P : List Request → Type 0) (count : ℕ) : Type 0 where
-  pub placed_last : (order : List Request) (request : Request) → request.hart < count → request_of order request.hart ≡ None → P order →
-      P (appended order request)
-  pub placed_before : (order : List Request) (request : Request) → request.hart < count → request_of order request.hart ≡ None → P order →
-      P (in_front_of order request)
+  pub placed_last : (order : List Request) (request : Request) → request.hart < count →
+      request_of order request.hart ≡ None → P order → P (appended order request)
+  pub placed_before : (order : List Request) (request : Request) → request.hart < count →
+      request_of order request.hart ≡ None → P order → P (in_front_of order request)
   pub taken_out : (order : List Request) (h : ℕ) → P order → P (removed order h)
 
 -- a hart with a raised request is one of the machine's
@@ -55,7 +58,8 @@ raised_exists state h request sound raised =
 
 module _ {P : List Request → Type 0} where
   place_keeps : (state : ModelState) (request : Request) (place : Place) → KeptInOrder P (length state.harts) →
-      request.hart < length state.harts → request_of state.order request.hart ≡ None → P state.order → P (order_at state request place)
+      request.hart < length state.harts → request_of state.order request.hart ≡ None → P state.order →
+      P (order_at state request place)
   place_keeps state request InFront kept exists free now = kept.placed_before state.order request exists free now
   place_keeps state request Behind kept exists free now = kept.placed_last state.order request exists free now
   place_keeps state request Alone kept exists free now = kept.placed_last state.order request exists free now
@@ -65,15 +69,18 @@ module _ {P : List Request → Type 0} where
       P state.order → P (order_after state start)
   start_keeps state by Nothing kept sound where_it now = now
   start_keeps state by (Places request place) kept sound may now =
-      let mine : raised_of state request.hart ≡ Some request = ap (raised_of state) ((sound by).own request may.raised) ∙ may.raised in
-      place_keeps state request place kept (raised_exists state by request sound may.raised) (free_of_order state request.hart request sound mine) now
+      let mine : raised_of state request.hart ≡ Some request =
+      ap (raised_of state) ((sound by).own request may.raised) ∙ may.raised in
+      place_keeps state request place kept (raised_exists state by request sound may.raised)
+      (free_of_order state request.hart request sound mine) now
   start_keeps state by (Serves request) kept sound may now = kept.taken_out state.order request.hart now
   start_keeps state by (Takes message others) kept sound where_it now = now
 
-  pub order_keeps : (state : ModelState) (event : Event) → KeptInOrder P (length state.harts) → Sound state → P state.order →
-      P (next state event).state.order
+  pub order_keeps : (state : ModelState) (event : Event) → KeptInOrder P (length state.harts) → Sound state →
+      P state.order → P (next state event).state.order
   order_keeps state event kept sound now =
-      by_event (λ turn. P turn.state.order) state event (λ is. let step = step_deed state event.hart.number in rw step.turn_is now)
+      by_event (λ turn. P turn.state.order) state event
+      (λ is. let step = step_deed state event.hart.number in rw step.turn_is now)
       (λ turn done. rw done.order (start_keeps state event.hart.number done.start kept sound done.where_it now))
 
 -- no hart has two
@@ -112,11 +119,13 @@ pub each_hart_waits_for_one : EachHartWaitsForOne
 each_hart_waits_for_one = always_sound
 
 -- each request is of a hart that a machine may have
-numbered_appended : (order : List Request) (request : Request) → request.hart < 8 → AreNumbered order → AreNumbered (appended order request)
+numbered_appended : (order : List Request) (request : Request) → request.hart < 8 → AreNumbered order →
+    AreNumbered (appended order request)
 numbered_appended [] request small now = (small, tt)
 numbered_appended (first ∷ order) request small (own, others) = (own, numbered_appended order request small others)
 
-numbered_in_front : (order : List Request) (request : Request) → request.hart < 8 → AreNumbered order → AreNumbered (in_front_of order request)
+numbered_in_front : (order : List Request) (request : Request) → request.hart < 8 → AreNumbered order →
+    AreNumbered (in_front_of order request)
 numbered_in_front [] request small now = (small, tt)
 numbered_in_front (first ∷ order) request small (own, others) =
     by_test AreNumbered (first.line == request.line) (request ∷ first ∷ order) (first ∷ in_front_of order request)
@@ -143,7 +152,8 @@ next_numbered state event now = record {
   numbered = order_keeps state event (kept_numbered (length state.harts) now.few) now.sound now.numbered;
 }
 
-pub first_numbered : (program : Program) (config : Config) → program.harts ≡ config.harts → IsInRange config → Numbered (begin program config)
+pub first_numbered : (program : Program) (config : Config) → program.harts ≡ config.harts → IsInRange config →
+    Numbered (begin program config)
 unfolding begin
 first_numbered program config same range = record {
   sound = always_sound program config [];

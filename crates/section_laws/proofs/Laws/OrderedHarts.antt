@@ -2,7 +2,8 @@
 use Rattle.std.proofs.Common.{◌≡◌, ◌∙◌, ◌<◌, ℕ, List, Some, ap, sym, inl, inr}
 use Rattle.std.proofs.lemmas.Bool.{cases_eq}
 use Rattle.bus_order.specs.Order.{Request, removed, request_of}
-use Rattle.bus_order.proofs.Laws.LookUps.{request_of_appended_other, request_of_in_front_of_other, request_of_removed_other, request_of_removed_own}
+use Rattle.bus_order.proofs.Laws.LookUps.{request_of_appended_other, request_of_in_front_of_other}
+use Rattle.bus_order.proofs.Laws.LookUps.{request_of_removed_other, request_of_removed_own}
 use Rattle.section_laws.proofs.Laws.Numbered.{KeptInOrder}
 use Rattle.el_base.proofs.Laws.Cases.{none_some}
 
@@ -23,7 +24,8 @@ below_kept count = record {
       ];
   taken_out = λ order gone now h found is.
       elim (cases_eq h gone) [
-        | inl same ↦ none_some (sym (request_of_removed_own order gone) ∙ ap (request_of (removed order gone)) (sym same) ∙ is)
+        | inl same ↦
+            none_some (sym (request_of_removed_own order gone) ∙ ap (request_of (removed order gone)) (sym same) ∙ is)
         | inr apart ↦ now h found (sym (request_of_removed_other order gone h (λ same. apart (sym same))) ∙ is)
       ];
 }

@@ -1,5 +1,6 @@
 -- how the steps of a section come out, and that none begins while its hart has the fallback flag
-use Rattle.std.proofs.Common.{◌≡◌, ◌≢◌, ◌∙◌, ◌≤◌, ◌<◌, ℕ, Bool, true, false, ◌&&◌, not, List, [], ◌∷◌, Option, None, Some, is_some, length, refl, ap}
+use Rattle.std.proofs.Common.{◌≡◌, ◌≢◌, ◌∙◌, ◌≤◌, ◌<◌, ℕ, Bool, true, false, ◌&&◌, not, List, [], ◌∷◌, Option, None}
+use Rattle.std.proofs.Common.{Some, is_some, length, refl, ap}
 use Rattle.std.proofs.Common.{sym, subst, inl, inr, ◌⊎◌}
 use Rattle.std.specs.Prelude.{nat_le, nat_lt}
 use Rattle.std.proofs.lemmas.Bool.{cases_eq, ltb-true, ltb-false}
@@ -11,7 +12,8 @@ use Rattle.el_base.specs.declared.events.Kind.TheVariants as kinds
 use Rattle.el_base.specs.declared.outcomes.Cause.{Cause}
 use Rattle.el_base.specs.declared.outcomes.Outcome.TheVariants as outcomes
 use Rattle.el_model.specs.BusEvent.{IsOfBus}
-use Rattle.el_model.specs.Deed.{Arms, Begins, Buffers, Commits, Continues, Deed, DoesWhere, Elides, LetsGo, Misses, Rests, RollsBack, Runs, Waits}
+use Rattle.el_model.specs.Deed.{Arms, Begins, Buffers, Commits, Continues, Deed, DoesWhere, Elides, LetsGo, Misses}
+use Rattle.el_model.specs.Deed.{Rests, RollsBack, Runs, Waits}
 use Rattle.el_model.specs.Deed.{done, hart_after, outcome_of}
 use Rattle.el_model.specs.Next.{after, kind_turn, next, state_after, step_turn}
 use Rattle.el_model.specs.Plain.{after_candidate, candidate_of, elides, least_confidence, may_elide}
@@ -22,7 +24,8 @@ use Rattle.el_model.proofs.Laws.BusEvents.{by_event}
 use Rattle.el_model.proofs.Laws.Deeds.{is_rolled, step_deed}
 use Rattle.el_model.proofs.Laws.Harts.{hart_of-past, hart_of-with_hart_same}
 use Rattle.pair_table.specs.Predictor.{confidence_of}
-use Rattle.section_laws.specs.Sections.{IsOfSection, NeverRunsCandidate, NoneBeginsAfterRollback, RunsCandidate, SectionStepsAreOfFiveKinds}
+use Rattle.section_laws.specs.Sections.{IsOfSection, NeverRunsCandidate, NoneBeginsAfterRollback, RunsCandidate}
+use Rattle.section_laws.specs.Sections.{SectionStepsAreOfFiveKinds}
 use Rattle.el_model.proofs.Laws.EachHart.{each_but}
 use Rattle.section_laws.proofs.Laws.EachKept.{BusKept, turn_keeps}
 use Rattle.section_laws.proofs.Laws.Waiting.{Sound, always_sound}
@@ -31,8 +34,8 @@ not_live : {X : Type 0} (section : Option Section) → is_some section ≡ true 
 not_live None live none = absurd (cc)
 not_live (Some section) live none = absurd (cc)
 
-deed_of_section : (state : ModelState) (h : ℕ) (deed : Deed) → DoesWhere state h deed → Sound state → is_live state h ≡ true →
-    IsOfSection (outcome_of deed)
+deed_of_section : (state : ModelState) (h : ℕ) (deed : Deed) → DoesWhere state h deed → Sound state →
+    is_live state h ≡ true → IsOfSection (outcome_of deed)
 deed_of_section state h Rests ended sound live = not_live (section_of state h) live ((sound h).stopped ended).no_section
 deed_of_section state h Waits does sound live = tt
 deed_of_section state h (Misses line need) does sound live = tt
@@ -42,12 +45,15 @@ deed_of_section state h (Buffers section touch) does sound live = tt
 deed_of_section state h (Commits section) does sound live = tt
 deed_of_section state h (RollsBack section cause) does sound live = tt
 deed_of_section state h (Arms word) arms sound live = not_live (section_of state h) live arms.outside.no_section
-deed_of_section state h (Elides armed swap) elides sound live = not_live (section_of state h) live elides.is_armed.no_section
-deed_of_section state h (Continues armed) continues sound live = not_live (section_of state h) live continues.is_armed.no_section
-deed_of_section state h (LetsGo armed) lets_go sound live = not_live (section_of state h) live lets_go.is_armed.no_section
+deed_of_section state h (Elides armed swap) elides sound live =
+    not_live (section_of state h) live elides.is_armed.no_section
+deed_of_section state h (Continues armed) continues sound live =
+    not_live (section_of state h) live continues.is_armed.no_section
+deed_of_section state h (LetsGo armed) lets_go sound live =
+    not_live (section_of state h) live lets_go.is_armed.no_section
 
-step_of_section : (state : ModelState) (h : ℕ) (kind : Kind) → kind ≡ kinds.Step → Sound state → is_live state h ≡ true →
-    IsOfSection (kind_turn state h kind).outcome
+step_of_section : (state : ModelState) (h : ℕ) (kind : Kind) → kind ≡ kinds.Step → Sound state →
+    is_live state h ≡ true → IsOfSection (kind_turn state h kind).outcome
 step_of_section state h kind is sound live =
     let step = step_deed state h in
     rw is (rw step.turn_is (deed_of_section state h step.deed step.where_it sound live))
@@ -55,7 +61,8 @@ step_of_section state h kind is sound live =
 pub section_steps_are_of_five_kinds : SectionStepsAreOfFiveKinds
 unfolding next
 section_steps_are_of_five_kinds program config events event is live =
-    step_of_section (after program config events) event.hart.number event.kind is (always_sound program config events) live
+    step_of_section (after program config events) event.hart.number event.kind is
+    (always_sound program config events) live
 
 -- a hart with the fallback flag that is not armed stays so in every event but a candidate that runs
 record IsBarred (hart : Hart) : Type 0 where
@@ -65,8 +72,8 @@ record IsBarred (hart : Hart) : Type 0 where
 abbrev Flagged : ModelState → ℕ → Hart → Type 0
 Flagged old h hart = IsBarred (hart_of old h) → IsBarred hart
 
-claim_barred : (live : Bool) (request : Request) (old new : Hart) → new.fallback ≡ old.fallback → new.armed ≡ old.armed → IsBarred old →
-    IsBarred (with_claim live request new)
+claim_barred : (live : Bool) (request : Request) (old new : Hart) → new.fallback ≡ old.fallback →
+    new.armed ≡ old.armed → IsBarred old → IsBarred (with_claim live request new)
 claim_barred true request old new flag armed now = record { flag = flag ∙ now.flag; unarmed = armed ∙ now.unarmed }
 claim_barred false request old new flag armed now = record { flag = flag ∙ now.flag; unarmed = armed ∙ now.unarmed }
 
@@ -87,9 +94,11 @@ flag_kept old = record {
   bystander = λ h state request hart now was. record { flag = (now was).flag; unarmed = (now was).unarmed };
 }
 
-candidate_barred : (pc : Option ℕ) (had_watch : Bool) (candidate : Option Swap) (old new : Hart) → (is_some candidate ≡ true → ⊥) →
-    new.fallback ≡ old.fallback → new.armed ≡ old.armed → IsBarred old → IsBarred (after_candidate pc had_watch candidate new)
-candidate_barred pc had_watch None old new none flag armed was = record { flag = flag ∙ was.flag; unarmed = armed ∙ was.unarmed }
+candidate_barred : (pc : Option ℕ) (had_watch : Bool) (candidate : Option Swap) (old new : Hart) →
+    (is_some candidate ≡ true → ⊥) → new.fallback ≡ old.fallback → new.armed ≡ old.armed → IsBarred old →
+    IsBarred (after_candidate pc had_watch candidate new)
+candidate_barred pc had_watch None old new none flag armed was =
+    record { flag = flag ∙ was.flag; unarmed = armed ∙ was.unarmed }
 candidate_barred pc had_watch (Some swap) old new none flag armed was = absurd (none refl)
 
 -- no hart elides or arms with the flag
@@ -120,7 +129,8 @@ deed_flagged state h (Begins swap) does none was = record { flag = was.flag; una
 deed_flagged state h (Buffers section touch) does none was = record { flag = was.flag; unarmed = was.unarmed }
 deed_flagged state h (Commits section) does none was = record { flag = was.flag; unarmed = refl }
 deed_flagged state h (RollsBack section cause) does none was = record { flag = refl; unarmed = refl }
-deed_flagged state h (Arms word) arms none was = untrusted state.config.mode (hart_of state h) _ was.flag arms.reserving.trusted
+deed_flagged state h (Arms word) arms none was =
+    untrusted state.config.mode (hart_of state h) _ was.flag arms.reserving.trusted
 deed_flagged state h (Elides armed swap) elides none was = not_armed elides.is_armed.armed_is was.unarmed
 deed_flagged state h (Continues armed) continues none was = not_armed continues.is_armed.armed_is was.unarmed
 deed_flagged state h (LetsGo armed) lets_go none was = not_armed lets_go.is_armed.armed_is was.unarmed
@@ -137,7 +147,8 @@ step_flagged : (state : ModelState) (h g : ℕ) →
 step_flagged state h g none =
     let step = step_deed state h in
     rw step.turn_is
-    (by_hart step.deed step.where_it (λ own ran. none own (ap (λ turn. turn.outcome) step.turn_is ∙ ran)) (cases_eq g h))
+    (by_hart step.deed step.where_it (λ own ran. none own (ap (λ turn. turn.outcome) step.turn_is ∙ ran))
+    (cases_eq g h))
   where
     by_hart : (deed : Deed) → DoesWhere state h deed →
         (g ≡ h → outcome_of deed ≡ outcomes.Ran → is_some (candidate_of state h) ≡ true → ⊥) →
@@ -179,7 +190,8 @@ deed_unflagged state h Rests does was began = absurd (cc)
 deed_unflagged state h Waits does was began = absurd (cc)
 deed_unflagged state h (Misses line need) does was began = absurd (cc)
 deed_unflagged state h (Runs touch) does was began = absurd (cc)
-deed_unflagged state h (Begins swap) begins was began = untrusted state.config.mode (hart_of state h) _ was.flag begins.elidable.trusted
+deed_unflagged state h (Begins swap) begins was began =
+    untrusted state.config.mode (hart_of state h) _ was.flag begins.elidable.trusted
 deed_unflagged state h (Buffers section touch) does was began = absurd (cc)
 deed_unflagged state h (Commits section) does was began = absurd (cc)
 deed_unflagged state h (RollsBack section cause) does was began = absurd (cc)
@@ -205,9 +217,11 @@ exists_by : (state : ModelState) (h : ℕ) (section : Section) → section_of st
     nat_lt h (length state.harts) ≡ below → h < length state.harts
 exists_by state h section live true below = ltb-true h (length state.harts) below
 exists_by state h section live false below =
-    not_live (section_of state h) (ap is_some live) (ap (λ hart. hart.section) (hart_of-past state h (ltb-false h (length state.harts) below)))
+    not_live (section_of state h) (ap is_some live)
+    (ap (λ hart. hart.section) (hart_of-past state h (ltb-false h (length state.harts) below)))
 
-pub live_exists : (state : ModelState) (h : ℕ) (section : Section) → section_of state h ≡ Some section → h < length state.harts
+pub live_exists : (state : ModelState) (h : ℕ) (section : Section) → section_of state h ≡ Some section →
+    h < length state.harts
 live_exists state h section live = exists_by state h section live (nat_lt h (length state.harts)) refl
 
 deed_sets_flag : (state : ModelState) (h : ℕ) (deed : Deed) (cause : Cause) → DoesWhere state h deed →
@@ -234,15 +248,19 @@ step_sets_flag : (state : ModelState) (h : ℕ) (cause : Cause) →
     IsBarred (hart_of (step_turn state h).state h)
 step_sets_flag state h cause back =
     let step = step_deed state h in
-    rw step.turn_is (deed_sets_flag state h step.deed cause step.where_it (sym (ap (λ turn. turn.outcome) step.turn_is) ∙ back))
+    rw step.turn_is
+    (deed_sets_flag state h step.deed cause step.where_it (sym (ap (λ turn. turn.outcome) step.turn_is) ∙ back))
 
-sets_flag : (state : ModelState) (event : Event) (cause : Cause) → (next state event).outcome ≡ outcomes.RolledBack cause →
+sets_flag : (state : ModelState) (event : Event) (cause : Cause) →
+    (next state event).outcome ≡ outcomes.RolledBack cause →
     IsBarred (hart_of (next state event).state event.hart.number)
 sets_flag state event cause =
-    by_event (λ turn. turn.outcome ≡ outcomes.RolledBack cause → IsBarred (hart_of turn.state event.hart.number)) state event
+    by_event (λ turn. turn.outcome ≡ outcomes.RolledBack cause → IsBarred (hart_of turn.state event.hart.number)) state
+    event
     (λ step. step_sets_flag state event.hart.number cause) (λ turn done back. absurd (subst IsOfBus back done.of_bus))
 
 pub none_begins_after_rollback : NoneBeginsAfterRollback
 none_begins_after_rollback state event later events cause back never own =
     unflagged (state_after (next state event).state events) later
-    (rw own (flag_stays_long (next state event).state events event.hart.number never (sets_flag state event cause back)))
+    (rw own
+    (flag_stays_long (next state event).state events event.hart.number never (sets_flag state event cause back)))

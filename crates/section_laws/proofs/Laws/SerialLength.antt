@@ -1,5 +1,6 @@
 -- a serial order is no longer than its history: each instruction of a section had an event of its own
-use Rattle.std.proofs.Common.{◌≡◌, ◌∙◌, ◌≤◌, ◌<◌, ◌+◌, ◌==◌, ℕ, zero, suc, Bool, true, false, List, [], ◌∷◌, Option, None, Some, is_some, length}
+use Rattle.std.proofs.Common.{◌≡◌, ◌∙◌, ◌≤◌, ◌<◌, ◌+◌, ◌==◌, ℕ, zero, suc, Bool, true, false, List, [], ◌∷◌, Option}
+use Rattle.std.proofs.Common.{None, Some, is_some, length}
 use Rattle.std.proofs.Common.{replicate, refl, ap, arith, if◌then◌else◌}
 use Rattle.std.specs.Prelude.{nat_le, nat_lt, slice_index_or, slice_set}
 use Rattle.std.proofs.lemmas.Bool.{ltb-false, ltb-true}
@@ -15,9 +16,11 @@ use Rattle.el_base.specs.declared.events.Event.{Event}
 use Rattle.el_base.specs.declared.freed.Freed.{Freed}
 use Rattle.elf_image.specs.Program.{Program}
 use Rattle.el_model.specs.Armed.{freed_by, freed_count, freed_hart, is_freed, let_go, let_go_hart}
-use Rattle.el_model.specs.BusEvent.{Becomes, IsBusEvent, Nothing, Places, Serves, Start, Takes, as_met, faced_head, freed_in, having_taken}
+use Rattle.el_model.specs.BusEvent.{Becomes, IsBusEvent, Nothing, Places, Serves, Start, Takes, as_met, faced_head}
+use Rattle.el_model.specs.BusEvent.{freed_in, having_taken}
 use Rattle.el_model.specs.BusEvent.{started}
-use Rattle.el_model.specs.Deed.{Arms, Begins, Buffers, Commits, Continues, Deed, DoesWhere, Elides, LetsGo, Misses, Rests, RollsBack, Runs, Waits}
+use Rattle.el_model.specs.Deed.{Arms, Begins, Buffers, Commits, Continues, Deed, DoesWhere, Elides, LetsGo, Misses}
+use Rattle.el_model.specs.Deed.{Rests, RollsBack, Runs, Waits}
 use Rattle.el_model.specs.Deed.{hart_after, outcome_of}
 use Rattle.el_model.specs.Face.{freed_if, met}
 use Rattle.el_model.specs.Next.{entries_from, next, state_after, step_turn}
@@ -52,7 +55,8 @@ weight_set : (harts : List Hart) (h : ℕ) (hart none : Hart) → kept_in none �
     weight (slice_set harts h hart) + kept_in (slice_index_or harts h none) ≤ weight harts + kept_in hart
 weight_set [] h hart none empty = omega (arith, empty)
 weight_set (first ∷ harts) zero hart none empty = omega arith
-weight_set (first ∷ harts) (suc h) hart none empty = let rest = weight_set harts h hart none empty in omega (arith, rest)
+weight_set (first ∷ harts) (suc h) hart none empty = let rest = weight_set harts h hart none empty in
+    omega (arith, rest)
 
 -- the sum of what is given for each number below another
 abbrev sum_below : (ℕ → ℕ) → ℕ → ℕ
@@ -92,7 +96,8 @@ candidate_keeps pc had_watch None hart = refl
 candidate_keeps pc had_watch (Some swap) hart = refl
 
 deed_runs : (state : ModelState) (h : ℕ) (deed : Deed) → DoesWhere state h deed →
-    kept_in (hart_after state h deed (hart_of state h)) + length (taking_effect h (outcome_of deed)) ≤ kept_in (hart_of state h) + 1
+    kept_in (hart_after state h deed (hart_of state h)) + length (taking_effect h (outcome_of deed))
+    ≤ kept_in (hart_of state h) + 1
 deed_runs state h Rests does = omega arith
 deed_runs state h Waits does = omega arith
 deed_runs state h (Misses line need) does = omega arith
@@ -148,12 +153,14 @@ moves effects old = record {
 }
 
 -- a freed hart keeps nothing, and no more of it takes effect than it has kept
-pub freed_at_most : (state : ModelState) (head : Request) (g : ℕ) → count_in (freed_by state head) g ≤ freed_count head g (hart_of state g)
+pub freed_at_most : (state : ModelState) (head : Request) (g : ℕ) →
+    count_in (freed_by state head) g ≤ freed_count head g (hart_of state g)
 freed_at_most state head g = by (nat_lt g 8) refl (nat_le (freed_count head g (hart_of state g)) 15) refl
   where
-    by : (below : Bool) → nat_lt g 8 ≡ below → (small : Bool) → nat_le (freed_count head g (hart_of state g)) 15 ≡ small →
-        count_in (freed_by state head) g ≤ freed_count head g (hart_of state g)
-    by false past small is = let none = count_in-beyond (freed_by state head) g (ltb-false g 8 past) in omega (arith, none)
+    by : (below : Bool) → nat_lt g 8 ≡ below → (small : Bool) → nat_le (freed_count head g (hart_of state g)) 15
+        ≡ small → count_in (freed_by state head) g ≤ freed_count head g (hart_of state g)
+    by false past small is = let none = count_in-beyond (freed_by state head) g (ltb-false g 8 past) in
+        omega (arith, none)
     by true below true is =
         let few : freed_count head g (hart_of state g) ≤ 15 = grind (arith, nat_tests) in
         let same = count_in-freed_of (λ h. freed_count head h (hart_of state h)) g (ltb-true g 8 below) few in
@@ -170,10 +177,12 @@ let_go_fewer old state head each =
     each_become (Fewer (count_in (freed_by state head)) old) state (freed_hart state head)
     (λ h.
     by_test (Fewer (count_in (freed_by state head)) old h) (is_freed head h (hart_of state h))
-    (let_go_hart (view_of state.committed h).pc (hart_of state h)) (hart_of state h) (λ freed. kept_no_more h freed) (λ unfreed. same h unfreed))
+    (let_go_hart (view_of state.committed h).pc (hart_of state h)) (hart_of state h) (λ freed. kept_no_more h freed)
+    (λ unfreed. same h unfreed))
     (λ h past. same h (none_freed head h (hart_of state h) (ap (λ hart. hart.armed) (hart_of-past state h past))))
   where
-    same : (h : ℕ) → is_freed head h (hart_of state h) ≡ false → Fewer (count_in (freed_by state head)) old h (hart_of state h)
+    same : (h : ℕ) → is_freed head h (hart_of state h) ≡ false →
+        Fewer (count_in (freed_by state head)) old h (hart_of state h)
     same h unfreed =
         let none = unfreed_count state head h unfreed in
         let now = each h in
@@ -201,9 +210,11 @@ started_fewer : (state : ModelState) (by : ℕ) (start : Start) (h : ℕ) (hart 
     Fewer no_effects state h (started state by start h hart)
 started_fewer state by Nothing h hart now = now
 started_fewer state by (Places request place) h hart now =
-    by_test (Fewer no_effects state h) (h == request.hart) (record hart { raised = None }) hart (λ own. now) (λ other. now)
+    by_test (Fewer no_effects state h) (h == request.hart) (record hart { raised = None }) hart
+    (λ own. now) (λ other. now)
 started_fewer state by (Serves request) h hart now =
-    by_test (Fewer no_effects state h) (h == request.hart) (served_hart state request hart) (bystander state request hart)
+    by_test (Fewer no_effects state h) (h == request.hart) (served_hart state request hart)
+    (bystander state request hart)
     (λ own.
     let same : kept_in (served_hart state request hart) ≡ kept_in hart = claim_fewer (is_some hart.section) request _ in
     omega (arith, same, now))
@@ -212,8 +223,8 @@ started_fewer state by (Takes message others) h hart now =
     by_test (Fewer no_effects state h) (h == by) (having_taken message others hart) hart
     (λ own. taken_keeps (moves no_effects state) message others h hart now) (λ other. now)
 
-becomes_fewer : (state : ModelState) (by : ℕ) (start : Start) (h : ℕ) {lost : Option ℕ} {hart : Hart} → Becomes state by start h lost hart →
-    Fewer no_effects state h hart
+becomes_fewer : (state : ModelState) (by : ℕ) (start : Start) (h : ℕ) {lost : Option ℕ} {hart : Hart} →
+    Becomes state by start h lost hart → Fewer no_effects state h hart
 becomes_fewer state by start h becomes =
     moved (moves no_effects state) state by start h (λ past. omega arith)
     (λ below. started_fewer state by start h (hart_of state h) (omega arith)) becomes
@@ -241,8 +252,8 @@ length_order freed (suc n) =
     ap (λ m. length (order_below m freed)) next ∙ length-order_below-more n freed
     ∙ ap (λ count. count + count_in freed n) (length_order freed n)
 
-freed_counts : (state new : ModelState) (freed : Freed) → length new.harts ≡ length state.harts → Each (Fewer (count_in freed) state) new →
-    Counts state new (length (order_of freed))
+freed_counts : (state new : ModelState) (freed : Freed) → length new.harts ≡ length state.harts →
+    Each (Fewer (count_in freed) state) new → Counts state new (length (order_of freed))
 unfolding order_of
 freed_counts state new freed count fewer =
     let less = weight_less state.harts new.harts (new_hart 0) (count_in freed) 8 count fewer in
@@ -263,7 +274,8 @@ next_counts state event =
     (λ step. step_counts state event.hart.number) (λ turn done. bus_counts done event.hart.number)
 
 all_count : (state : ModelState) (events : List Event) →
-    length (serial (entries_from state events)) + weight (state_after state events).harts ≤ length events + weight state.harts
+    length (serial (entries_from state events)) + weight (state_after state events).harts
+    ≤ length events + weight state.harts
 all_count state [] = omega arith
 all_count state (event ∷ events) =
     let rest = all_count (next state event).state events in

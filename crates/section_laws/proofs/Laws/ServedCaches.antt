@@ -1,18 +1,23 @@
 -- a cache after a request was served: its shape, its room, and how many lines are written in it
-use Rattle.std.proofs.Common.{◌≡◌, ◌≢◌, ◌∙◌, ℕ, ◌+◌, ◌≤◌, ◌<◌, Bool, true, false, not, List, Option, Some, None, is_some, option_map, length, refl, ap}
+use Rattle.std.proofs.Common.{◌≡◌, ◌≢◌, ◌∙◌, ℕ, ◌+◌, ◌≤◌, ◌<◌, Bool, true, false, not, List, Option, Some, None}
+use Rattle.std.proofs.Common.{is_some, option_map, length, refl, ap}
 use Rattle.std.proofs.Common.{sym, inl, inr, ◌⊎◌, arith}
 use Rattle.std.proofs.lemmas.Bool.{cases_eq}
 use Rattle.std.specs.Option.{option_map_or}
-use Rattle.residency.specs.Cache.{bit_in, filled_with, is_resident, letter_in, letter_of, lettered, marked, room_of, touched, way_of, without_line}
+use Rattle.residency.specs.Cache.{bit_in, filled_with, is_resident, letter_in, letter_of, lettered, marked, room_of}
+use Rattle.residency.specs.Cache.{touched, way_of, without_line}
 use Rattle.residency.specs.Cache.{write_bit, write_bits_of}
 use Rattle.residency.specs.Residency.{Way, with_bit, with_letter}
 use Rattle.residency.specs.WellFormed.{IsWellFormed}
 use Rattle.residency.proofs.Laws.AbsentWays.{lettered_absent}
-use Rattle.residency.proofs.Laws.CacheLemmas.{length-with_set, way_of-filled_with_same, way_of-lettered_other, way_of-lettered_same, way_of-touched}
+use Rattle.residency.proofs.Laws.CacheLemmas.{length-with_set, way_of-filled_with_same, way_of-lettered_other}
+use Rattle.residency.proofs.Laws.CacheLemmas.{way_of-lettered_same, way_of-touched}
 use Rattle.residency.proofs.Laws.CacheLemmas.{way_of-without_line_other}
-use Rattle.residency.proofs.Laws.MarkLemmas.{one_if, total-marked, write_bits_of-filled_with, write_bits_of-lettered, write_bits_of-touched}
+use Rattle.residency.proofs.Laws.MarkLemmas.{one_if, total-marked, write_bits_of-filled_with, write_bits_of-lettered}
+use Rattle.residency.proofs.Laws.MarkLemmas.{write_bits_of-touched}
 use Rattle.residency.proofs.Laws.MarkLemmas.{write_bits_of-without_line, write_of}
-use Rattle.residency.proofs.Laws.WellFormedLemmas.{well_formed-filled_with, well_formed-lettered, well_formed-touched, well_formed-without_line}
+use Rattle.residency.proofs.Laws.WellFormedLemmas.{well_formed-filled_with, well_formed-lettered, well_formed-touched}
+use Rattle.residency.proofs.Laws.WellFormedLemmas.{well_formed-without_line}
 use Rattle.el_base.specs.declared.outcomes.Need.{Need}
 use Rattle.el_base.specs.declared.outcomes.Need.TheVariants.{Read, Write}
 use Rattle.el_model.specs.Serve.{kept_letter, others_cache, own_copy}
@@ -49,8 +54,8 @@ own_letter Write letter some = λ is. absurd (cc)
 
 -- another hart's cache: as it was, with another letter, or without its copy
 others_by : (P : List (List Way) → Type 0) (had : Bool) (need : Need) (cache : List (List Way)) (line : ℕ) → P cache →
-    (is_resident cache line ≡ true → P (lettered cache line (on_read_of (letter_of cache line)))) → P (without_line cache line) →
-    P (others_cache had need cache line)
+    (is_resident cache line ≡ true → P (lettered cache line (on_read_of (letter_of cache line)))) →
+    P (without_line cache line) → P (others_cache had need cache line)
 others_by P had Write cache line same read write = write
 others_by P true Read cache line same read write = same
 others_by P false Read cache line same read write = by (is_resident cache line) refl
@@ -59,35 +64,40 @@ others_by P false Read cache line same read write = by (is_resident cache line) 
     by true here = read here
     by false absent = let stays = lettered_absent cache line (on_read_of (letter_of cache line)) absent in rw stays same
 
-pub others_well_formed : (ways : ℕ) (had : Bool) (need : Need) (cache : List (List Way)) (line : ℕ) → IsWellFormed ways cache →
-    IsWellFormed ways (others_cache had need cache line)
+pub others_well_formed : (ways : ℕ) (had : Bool) (need : Need) (cache : List (List Way)) (line : ℕ) →
+    IsWellFormed ways cache → IsWellFormed ways (others_cache had need cache line)
 others_well_formed ways had need cache line well =
     others_by (IsWellFormed ways) had need cache line well
     (λ here. well_formed-lettered ways cache line _ (read_letter _ (there_letter ways cache line well here)) well)
     (well_formed-without_line ways cache line well)
 
-pub others_room : (ways : ℕ) (had : Bool) (need : Need) (cache : List (List Way)) (line l : ℕ) → IsWellFormed ways cache →
-    room_of ways cache l ≡ true → room_of ways (others_cache had need cache line) l ≡ true
+pub others_room : (ways : ℕ) (had : Bool) (need : Need) (cache : List (List Way)) (line l : ℕ) →
+    IsWellFormed ways cache → room_of ways cache l ≡ true → room_of ways (others_cache had need cache line) l ≡ true
 others_room ways had need cache line l well room =
-    others_by (λ c. room_of ways c l ≡ true) had need cache line room (λ here. room_lettered ways cache line l _ well room)
+    others_by (λ c. room_of ways c l ≡ true) had need cache line room
+    (λ here. room_lettered ways cache line l _ well room)
     (room_without_line ways cache line l well room)
 
 -- as many lines are written as were, or fewer; a line that is not written was not, or one line fewer is written
 pub record WritesNoMore (old new : List (List Way)) : Type 0 where
   pub no_more : write_bits_of new ≤ write_bits_of old
-  pub unwritten : (l : ℕ) → write_bit new l ≡ false → (write_bit old l ≡ false) ⊎ (write_bits_of new < write_bits_of old)
+  pub unwritten : (l : ℕ) → write_bit new l ≡ false →
+      (write_bit old l ≡ false) ⊎ (write_bits_of new < write_bits_of old)
 
 writes_same : (cache : List (List Way)) → WritesNoMore cache cache
 writes_same cache = record { no_more = omega arith; unwritten = λ l is. inl is }
 
-letter_write : (letter : Letter) (way : Option Way) → bit_in Write (option_map (with_letter letter) way) ≡ bit_in Write way
+letter_write : (letter : Letter) (way : Option Way) →
+    bit_in Write (option_map (with_letter letter) way) ≡ bit_in Write way
 letter_write letter None = refl
 letter_write letter (Some way) = refl
 
-write_bit_lettered : (cache : List (List Way)) (line l : ℕ) (letter : Letter) → write_bit (lettered cache line letter) l ≡ write_bit cache l
+write_bit_lettered : (cache : List (List Way)) (line l : ℕ) (letter : Letter) →
+    write_bit (lettered cache line letter) l ≡ write_bit cache l
 write_bit_lettered cache line l letter =
     elim (cases_eq l line) [
-      | inl same ↦ rw same (ap (bit_in Write) (way_of-lettered_same cache line letter) ∙ letter_write letter (way_of cache line))
+      | inl same ↦
+          rw same (ap (bit_in Write) (way_of-lettered_same cache line letter) ∙ letter_write letter (way_of cache line))
       | inr other ↦ ap (bit_in Write) (way_of-lettered_other cache line l letter other)
     ]
 
@@ -98,7 +108,8 @@ writes_lettered ways cache line letter well = record {
   unwritten = λ l is. inl (sym (write_bit_lettered cache line l letter) ∙ is);
 }
 
-writes_without : (ways : ℕ) (cache : List (List Way)) (line : ℕ) → IsWellFormed ways cache → WritesNoMore cache (without_line cache line)
+writes_without : (ways : ℕ) (cache : List (List Way)) (line : ℕ) → IsWellFormed ways cache →
+    WritesNoMore cache (without_line cache line)
 writes_without ways cache line well = record {
   no_more = let sum = write_bits_of-without_line ways cache line well in omega (arith, sum);
   unwritten = λ l is. at l is (cases_eq l line);
@@ -114,26 +125,31 @@ writes_without ways cache line well = record {
     at l is (inl same) = rw same (left (write_bit cache line) (write_bits_of-without_line ways cache line well))
     at l is (inr other) = inl (sym (ap (bit_in Write) (way_of-without_line_other cache line l other)) ∙ is)
 
-pub others_writes : (ways : ℕ) (had : Bool) (need : Need) (cache : List (List Way)) (line : ℕ) → IsWellFormed ways cache →
-    WritesNoMore cache (others_cache had need cache line)
+pub others_writes : (ways : ℕ) (had : Bool) (need : Need) (cache : List (List Way)) (line : ℕ) →
+    IsWellFormed ways cache → WritesNoMore cache (others_cache had need cache line)
 others_writes ways had need cache line well =
-    others_by (WritesNoMore cache) had need cache line (writes_same cache) (λ here. writes_lettered ways cache line _ well)
+    others_by (WritesNoMore cache) had need cache line (writes_same cache)
+    (λ here. writes_lettered ways cache line _ well)
     (writes_without ways cache line well)
 
-pub others_sets : (had : Bool) (need : Need) (cache : List (List Way)) (line : ℕ) → length (others_cache had need cache line) ≡ length cache
+pub others_sets : (had : Bool) (need : Need) (cache : List (List Way)) (line : ℕ) →
+    length (others_cache had need cache line) ≡ length cache
 others_sets had need cache line =
-    others_by (λ c. length c ≡ length cache) had need cache line refl (λ here. length-with_set cache line _) (length-with_set cache line _)
+    others_by (λ c. length c ≡ length cache) had need cache line refl (λ here. length-with_set cache line _)
+    (length-with_set cache line _)
 
 -- the cache of the served hart
 own_by : (P : List (List Way) → Type 0) (ways : ℕ) (others : Bool) (need : Need) (cache : List (List Way)) (line : ℕ) →
     (is_resident cache line ≡ true → P (lettered cache line (kept_letter need (letter_of cache line)))) →
-    (is_resident cache line ≡ false → P (filled_with ways cache line (filled_of need others))) → P (own_copy ways others need cache line)
+    (is_resident cache line ≡ false → P (filled_with ways cache line (filled_of need others))) →
+    P (own_copy ways others need cache line)
 own_by P ways others need cache line kept filled =
-    by_test P (is_resident cache line) (lettered cache line (kept_letter need (letter_of cache line))) (filled_with ways cache line (filled_of need others))
+    by_test P (is_resident cache line) (lettered cache line (kept_letter need (letter_of cache line)))
+    (filled_with ways cache line (filled_of need others))
     kept filled
 
-pub own_well_formed : (ways : ℕ) (others : Bool) (need : Need) (cache : List (List Way)) (line : ℕ) → IsWellFormed ways cache →
-    room_of ways cache line ≡ true → IsWellFormed ways (own_copy ways others need cache line)
+pub own_well_formed : (ways : ℕ) (others : Bool) (need : Need) (cache : List (List Way)) (line : ℕ) →
+    IsWellFormed ways cache → room_of ways cache line ≡ true → IsWellFormed ways (own_copy ways others need cache line)
 own_well_formed ways others need cache line well room =
     own_by (IsWellFormed ways) ways others need cache line
     (λ here. well_formed-lettered ways cache line _ (own_letter need _ (there_letter ways cache line well here)) well)
@@ -142,14 +158,17 @@ own_well_formed ways others need cache line well room =
 own_writes : (ways : ℕ) (others : Bool) (need : Need) (cache : List (List Way)) (line : ℕ) → IsWellFormed ways cache →
     write_bits_of (own_copy ways others need cache line) ≡ write_bits_of cache
 own_writes ways others need cache line well =
-    own_by (λ c. write_bits_of c ≡ write_bits_of cache) ways others need cache line (λ here. write_bits_of-lettered ways cache line _ well)
+    own_by (λ c. write_bits_of c ≡ write_bits_of cache) ways others need cache line
+    (λ here. write_bits_of-lettered ways cache line _ well)
     (λ absent. write_bits_of-filled_with ways cache line _ well)
 
-own_write_bit : (ways : ℕ) (others : Bool) (need : Need) (cache : List (List Way)) (line : ℕ) → IsWellFormed ways cache →
-    write_bit (own_copy ways others need cache line) line ≡ write_bit cache line
+own_write_bit : (ways : ℕ) (others : Bool) (need : Need) (cache : List (List Way)) (line : ℕ) →
+    IsWellFormed ways cache → write_bit (own_copy ways others need cache line) line ≡ write_bit cache line
 own_write_bit ways others need cache line well =
-    own_by (λ c. write_bit c line ≡ write_bit cache line) ways others need cache line (λ here. write_bit_lettered cache line line _)
-    (λ absent. ap (bit_in Write) (way_of-filled_with_same ways cache line _ well.some_set) ∙ sym (none (way_of cache line) absent))
+    own_by (λ c. write_bit c line ≡ write_bit cache line) ways others need cache line
+    (λ here. write_bit_lettered cache line line _)
+    (λ absent. ap (bit_in Write) (way_of-filled_with_same ways cache line _ well.some_set)
+    ∙ sym (none (way_of cache line) absent))
   where
     none : (way : Option Way) → is_some way ≡ false → bit_in Write way ≡ false
     none None absent = refl
@@ -158,26 +177,30 @@ own_write_bit ways others need cache line well =
 own_sets : (ways : ℕ) (others : Bool) (need : Need) (cache : List (List Way)) (line : ℕ) →
     length (own_copy ways others need cache line) ≡ length cache
 own_sets ways others need cache line =
-    own_by (λ c. length c ≡ length cache) ways others need cache line (λ here. length-with_set cache line _) (λ absent. length-with_set cache line _)
+    own_by (λ c. length c ≡ length cache) ways others need cache line (λ here. length-with_set cache line _)
+    (λ absent. length-with_set cache line _)
 
 -- and after the line was touched there
 abbrev pub own_after : ℕ → Bool → Need → List (List Way) → ℕ → List (List Way)
 own_after ways others need cache line = touched (own_copy ways others need cache line) line
 
-pub own_after_well_formed : (ways : ℕ) (others : Bool) (need : Need) (cache : List (List Way)) (line : ℕ) → IsWellFormed ways cache →
-    room_of ways cache line ≡ true → IsWellFormed ways (own_after ways others need cache line)
+pub own_after_well_formed : (ways : ℕ) (others : Bool) (need : Need) (cache : List (List Way)) (line : ℕ) →
+    IsWellFormed ways cache → room_of ways cache line ≡ true → IsWellFormed ways (own_after ways others need cache line)
 own_after_well_formed ways others need cache line well room =
     well_formed-touched ways _ line (own_well_formed ways others need cache line well room)
 
-pub own_after_writes : (ways : ℕ) (others : Bool) (need : Need) (cache : List (List Way)) (line : ℕ) → IsWellFormed ways cache →
-    room_of ways cache line ≡ true → write_bits_of (own_after ways others need cache line) ≡ write_bits_of cache
+pub own_after_writes : (ways : ℕ) (others : Bool) (need : Need) (cache : List (List Way)) (line : ℕ) →
+    IsWellFormed ways cache → room_of ways cache line ≡ true →
+    write_bits_of (own_after ways others need cache line) ≡ write_bits_of cache
 own_after_writes ways others need cache line well room =
-    write_bits_of-touched ways _ line (own_well_formed ways others need cache line well room) ∙ own_writes ways others need cache line well
+    write_bits_of-touched ways _ line (own_well_formed ways others need cache line well room)
+    ∙ own_writes ways others need cache line well
 
-pub own_after_write_bit : (ways : ℕ) (others : Bool) (need : Need) (cache : List (List Way)) (line : ℕ) → IsWellFormed ways cache →
-    write_bit (own_after ways others need cache line) line ≡ write_bit cache line
+pub own_after_write_bit : (ways : ℕ) (others : Bool) (need : Need) (cache : List (List Way)) (line : ℕ) →
+    IsWellFormed ways cache → write_bit (own_after ways others need cache line) line ≡ write_bit cache line
 own_after_write_bit ways others need cache line well =
-    ap (bit_in Write) (way_of-touched (own_copy ways others need cache line) line line) ∙ own_write_bit ways others need cache line well
+    ap (bit_in Write) (way_of-touched (own_copy ways others need cache line) line line)
+    ∙ own_write_bit ways others need cache line well
 
 pub own_after_sets : (ways : ℕ) (others : Bool) (need : Need) (cache : List (List Way)) (line : ℕ) →
     length (own_after ways others need cache line) ≡ length cache
@@ -197,4 +220,5 @@ written_at_most (Some way) before after sums = by way.write sums
 pub marked_writes : (ways : ℕ) (cache : List (List Way)) (line : ℕ) → IsWellFormed ways cache →
     write_bits_of (marked cache line Write) ≤ write_bits_of cache + one_if (not (write_bit cache line))
 marked_writes ways cache line well =
-    written_at_most (way_of cache line) (write_bits_of cache) (write_bits_of (marked cache line Write)) (total-marked write_of ways cache line Write well)
+    written_at_most (way_of cache line) (write_bits_of cache) (write_bits_of (marked cache line Write))
+    (total-marked write_of ways cache line Write well)

@@ -1,5 +1,6 @@
 -- a hart's steps stop and start no other hart, nor do those of the harts that are let go
-use Rattle.std.proofs.Common.{◌≡◌, ◌≢◌, ◌∙◌, ◌+◌, ◌⊎◌, ℕ, zero, suc, Bool, true, false, replicate, refl, ap, sym, inl, inr, arith, if◌then◌else◌}
+use Rattle.std.proofs.Common.{◌≡◌, ◌≢◌, ◌∙◌, ◌+◌, ◌⊎◌, ℕ, zero, suc, Bool, true, false, replicate, refl, ap, sym, inl}
+use Rattle.std.proofs.Common.{inr, arith, if◌then◌else◌}
 use Rattle.std.specs.Prelude.{nat_lt}
 use Rattle.std.proofs.lemmas.Bool.{cases_eq, ltb-true, ltb-false}
 use Rattle.bus_order.specs.Order.{Request}
@@ -39,9 +40,11 @@ others_status state freed g (suc n) none =
     ∙ others_status state freed g n none
   where
     by : (g ≡ n) ⊎ (g ≡ n → ⊥) →
-        status_of (alone (run state (order_below n freed)) n (count_in freed n)) g ≡ status_of (run state (order_below n freed)) g
+        status_of (alone (run state (order_below n freed)) n (count_in freed n)) g
+        ≡ status_of (run state (order_below n freed)) g
     by (inl same) =
-        ap (λ count. status_of (alone (run state (order_below n freed)) n count) g) (ap (count_in freed) (sym same) ∙ none)
+        ap (λ count. status_of (alone (run state (order_below n freed)) n count) g)
+        (ap (count_in freed) (sym same) ∙ none)
     by (inr apart) = alone_status (run state (order_below n freed)) n g (count_in freed n) apart
 
 pub freed_status : (state : FlatState) (freed : Freed) (g : ℕ) → count_in freed g ≡ 0 →
@@ -65,4 +68,5 @@ unfreed_count state head g unfreed = by (nat_lt g 8) refl
 pub let_go_status : (state : ModelState) (head : Request) (g : ℕ) → is_freed head g (hart_of state g) ≡ false →
     status_of (let_go state head).committed g ≡ status_of state.committed g
 unfolding let_go
-let_go_status state head g unfreed = freed_status state.committed (freed_by state head) g (unfreed_count state head g unfreed)
+let_go_status state head g unfreed =
+    freed_status state.committed (freed_by state head) g (unfreed_count state head g unfreed)

@@ -1,5 +1,6 @@
 -- the view and the value that are kept of an armed section, from its LR to its SC
-use Rattle.std.proofs.Common.{◌≡◌, ◌<◌, ◌+◌, ◌∙◌, ◌||◌, ◌==◌, ℕ, false, true, List, [], None, Some, arith, ap, refl, sym, subst}
+use Rattle.std.proofs.Common.{◌≡◌, ◌<◌, ◌+◌, ◌∙◌, ◌||◌, ◌==◌, ℕ, false, true, List, [], None, Some, arith, ap, refl}
+use Rattle.std.proofs.Common.{sym, subst}
 use Rattle.std.proofs.Common.{inl, inr, ◌⊎◌}
 use Rattle.std.specs.Prelude.{slice_index}
 use Rattle.std.proofs.lemmas.Option.{same_Some}
@@ -72,8 +73,10 @@ module _ (committed : FlatState) (h : ℕ) (cache : List (List Way)) (armed : Ar
       ∙ written_store (next_access shown h) (silent_at committed h cache armed run n less).writes_none
 
   -- the SC that comes next
-  module _ (swap : Swap) (rd : Reg) (address value : ℕ) (is : next_conditional (alone committed h armed.count) h ≡ Some swap)
-      (same : swap.word ≡ armed.word) (acts : action_of committed view ≡ actions.StoreConditional rd address value) where
+  module _ (swap : Swap) (rd : Reg) (address value : ℕ)
+      (is : next_conditional (alone committed h armed.count) h ≡ Some swap)
+      (same : swap.word ≡ armed.word)
+      (acts : action_of committed view ≡ actions.StoreConditional rd address value) where
     stores : StoresWord (alone committed h armed.count) h armed.word swap.new
     stores =
         subst (λ word. StoresWord (alone committed h armed.count) h word swap.new) same
@@ -85,15 +88,19 @@ module _ (committed : FlatState) (h : ℕ) (cache : List (List Way)) (armed : Ar
         (completes_by shown h swap is).old
         ∙ ap (λ word. loaded (byte_in shown.base shown.bytes) word 4) same
         ∙ ap (λ base. loaded (byte_in base shown.bytes) armed.word 4) (alone_base committed h armed.count)
-        ∙ ap (λ bytes. loaded (byte_in committed.base bytes) armed.word 4) (armed_memory committed h cache armed run armed.count (omega arith))
+        ∙ ap (λ bytes. loaded (byte_in committed.base bytes) armed.word 4)
+        (armed_memory committed h cache armed run armed.count (omega arith))
         ∙ sym keeps.found
 
     elided_view : release_of (put_of view rd.number 0) ≡ view_of (alone committed h (armed.count + 1)) h
     elided_view =
         let shown = alone committed h armed.count in
-        let action = ap (action_of shown) (sym keeps.view) ∙ (armed_comes_to committed h cache armed old view run keeps).action ∙ acts in
+        let action =
+        ap (action_of shown) (sym keeps.view) ∙ (armed_comes_to committed h cache armed old view run keeps).action
+        ∙ acts in
         ap (λ view. release_of (put_of view rd.number 0)) keeps.view
-        ∙ ap (λ execution. view_after execution (view_of shown h)) (sym (next_is shown h (actions.StoreConditional rd address value) action))
+        ∙ ap (λ execution. view_after execution (view_of shown h))
+        (sym (next_is shown h (actions.StoreConditional rd address value) action))
         ∙ view_after_step committed h armed.count (view_of shown h) refl runs
 
     unheld_byte : (place : ℕ) → IsOutsideWord armed.word (committed.base + place) →
@@ -108,11 +115,12 @@ module _ (committed : FlatState) (h : ℕ) (cache : List (List Way)) (armed : Ar
     only_last : (line : ℕ) → WroteLine committed h (armed.count + 1) line → is_written armed.word [] line ≡ true
     only_last line wrote = by (written_since committed h armed.count line wrote)
       where
-        by : (written_line (footprint_of (alone committed h armed.count) h) ≡ Some line) ⊎ WroteLine committed h armed.count line →
-            is_written armed.word [] line ≡ true
+        by : (written_line (footprint_of (alone committed h armed.count) h) ≡ Some line)
+            ⊎ WroteLine committed h armed.count line → is_written armed.word [] line ≡ true
         by (inl last) =
             let there : line_number armed.word ≡ line =
-            same_Some _ line (sym (word_written (alone committed h armed.count) h armed.word swap.new runs stores) ∙ last) in
+            same_Some _ line
+            (sym (word_written (alone committed h armed.count) h armed.word swap.new runs stores) ∙ last) in
             subst (λ line. is_written armed.word [] line ≡ true) there
             (ap (λ test. test || holds [] (line_number armed.word)) (own_test (line_number armed.word)))
         by (inr before) = none_some (sym (wrote_none before.step before.before) ∙ before.writes)
@@ -147,16 +155,20 @@ module _ (committed : FlatState) (h : ℕ) (cache : List (List Way)) (armed : Ar
         (untouched (touched_by committed view) address
         (ap touch_of (sym (armed_comes_to committed h cache armed old view run keeps).access) ∙ untouching) there)
 
-    one_more : view_after (perform (action_of committed view) view under) view ≡ view_of (alone committed h (armed.count + 1)) h
+    one_more : view_after (perform (action_of committed view) view under) view
+        ≡ view_of (alone committed h (armed.count + 1)) h
     one_more =
         let shown = alone committed h armed.count in
         ap (λ execution. view_after execution view)
-        (does_alike committed shown h view under keeps.view (armed_comes_to committed h cache armed old view run keeps) agree)
+        (does_alike committed shown h view under keeps.view
+        (armed_comes_to committed h cache armed old view run keeps) agree)
         ∙ view_after_step committed h armed.count view keeps.view runs
 
 pub armed_goes : ArmedSectionsGoOn
 armed_goes committed h cache armed old view under run keeps quiet = record {
-  view = one_more committed h cache armed old view run keeps under (quiet_of (alone committed h armed.count) h quiet).untouched;
+  view =
+      one_more committed h cache armed old view run keeps under
+      (quiet_of (alone committed h armed.count) h quiet).untouched;
   found = keeps.found;
 }
 

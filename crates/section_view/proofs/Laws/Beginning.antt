@@ -1,5 +1,6 @@
 -- a section begins with the view after its swap and a hold of nothing
-use Rattle.std.proofs.Common.{◌≡◌, ◌+◌, ◌∙◌, ◌||◌, ◌==◌, ℕ, Bool, true, false, [], None, Some, arith, refl, ap, sym, subst}
+use Rattle.std.proofs.Common.{◌≡◌, ◌+◌, ◌∙◌, ◌||◌, ◌==◌, ℕ, Bool, true, false, [], None, Some, arith, refl, ap, sym}
+use Rattle.std.proofs.Common.{subst}
 use Rattle.std.proofs.lemmas.Option.{same_Some}
 use Rattle.el_base.specs.Line.{line_number}
 use Rattle.el_base.proofs.Laws.Tests.{number_of_test, own_test}
@@ -39,20 +40,21 @@ same_address left right same = ap (λ store. store.address) (same_store left rig
     same_store left right same = cc
 
 -- a word's line is the one that a store of the word writes
-pub word_written : (state : FlatState) (h word value : ℕ) → status_of state h ≡ Running → StoresWord state h word value →
-    written_line (footprint_of state h) ≡ Some (line_number word)
+pub word_written : (state : FlatState) (h word value : ℕ) → status_of state h ≡ Running →
+    StoresWord state h word value → written_line (footprint_of state h) ≡ Some (line_number word)
 word_written state h word value runs stores = ap written_line (running_footprint state h runs ∙ stores.writes)
 
 pub or_cases : {X : Type 0} (a b : Bool) → (a || b) ≡ true → (a ≡ true → X) → (b ≡ true → X) → X
 or_cases true b is left right = left refl
 or_cases false b is left right = right is
 
-module _ (committed : FlatState) (h : ℕ) (swap : Swap) (runs : status_of committed h ≡ Running) (is : next_swap committed h ≡ Some swap) where
+module _ (committed : FlatState) (h : ℕ) (swap : Swap) (runs : status_of committed h ≡ Running)
+    (is : next_swap committed h ≡ Some swap) where
   first : Acquires committed h swap
   first = acquires committed h swap is
 
-  begun_view : (op : _) (rd : _) (address source : ℕ) → action_of committed (view_of committed h) ≡ actions.Amo op rd address source →
-      release_of (put_of (view_of committed h) rd.number swap.old) ≡ view_of (flat committed h) h
+  begun_view : (op : _) (rd : _) (address source : ℕ) → action_of committed (view_of committed h) ≡ actions.Amo op rd
+      address source → release_of (put_of (view_of committed h) rd.number swap.old) ≡ view_of (flat committed h) h
   begun_view op rd address source acts =
       let view = view_of committed h in
       let byte = byte_in committed.base committed.bytes in
@@ -68,8 +70,10 @@ module _ (committed : FlatState) (h : ℕ) (swap : Swap) (runs : status_of commi
       let none : wrote.step ≡ 0 = let before = wrote.before in omega arith in
       let written : written_line (footprint_of committed h) ≡ Some line =
       subst (λ n. written_line (footprint_of (alone committed h n) h) ≡ Some line) none wrote.writes in
-      let same : line_number swap.word ≡ line = same_Some _ line (sym (word_written committed h swap.word swap.new runs first.stores) ∙ written) in
-      subst (λ line. is_written swap.word [] line ≡ true) same (ap (λ test. test || holds [] (line_number swap.word)) (own_test (line_number swap.word)))
+      let same : line_number swap.word ≡ line =
+      same_Some _ line (sym (word_written committed h swap.word swap.new runs first.stores) ∙ written) in
+      subst (λ line. is_written swap.word [] line ≡ true) same
+      (ap (λ test. test || holds [] (line_number swap.word)) (own_test (line_number swap.word)))
 
   lock_first : (line : ℕ) → is_written swap.word [] line ≡ true → WroteLine committed h 1 line
   lock_first line is =
@@ -78,7 +82,9 @@ module _ (committed : FlatState) (h : ℕ) (swap : Swap) (runs : status_of commi
       record {
         step = 0;
         before = omega arith;
-        writes = word_written committed h swap.word swap.new runs first.stores ∙ ap Some (sym (number_of_test line (line_number swap.word) own));
+        writes =
+            word_written committed h swap.word swap.new runs first.stores
+            ∙ ap Some (sym (number_of_test line (line_number swap.word) own));
       })
       (λ wrong. absurd (cc))
 
@@ -86,7 +92,9 @@ pub begins : SectionsBegin
 begins committed h swap op rd address source runs is acts = record {
   view = begun_view committed h swap runs is op rd address source acts;
   held_byte = λ place byte held. none_some (sym (held_nothing (committed.base + place)) ∙ held);
-  unheld_byte = λ place none out. keeps_outside committed h swap.word swap.new place runs (first committed h swap runs is).stores out;
+  unheld_byte =
+      λ place none out. keeps_outside committed h swap.word swap.new place runs
+      (first committed h swap runs is).stores out;
   free = λ address low high. held_nothing address;
   written = λ line. (only_first committed h swap runs is line, lock_first committed h swap runs is line);
 }

@@ -1,5 +1,6 @@
 -- a section takes effect at its release
-use Rattle.std.proofs.Common.{◌≡◌, ◌≢◌, ◌≤◌, ◌+◌, ◌-◌, ◌%◌, ◌^◌, ◌∙◌, ◌==◌, ℕ, true, List, Some, length, arith, ap, sym, subst, inl, inr, ◌⊎◌}
+use Rattle.std.proofs.Common.{◌≡◌, ◌≢◌, ◌≤◌, ◌+◌, ◌-◌, ◌%◌, ◌^◌, ◌∙◌, ◌==◌, ℕ, true, List, Some, length, arith, ap, sym}
+use Rattle.std.proofs.Common.{subst, inl, inr, ◌⊎◌}
 use Rattle.std.specs.Prelude.{slice_index, unwrap_or}
 use Rattle.std.proofs.lemmas.Option.{same_Some}
 use Rattle.std.proofs.lemmas.Bool.{or_left}
@@ -39,7 +40,8 @@ use Rattle.section_view.specs.Laws.{AgreeBeside, ReleasedViewsAreTold, SectionsC
 use Rattle.section_view.specs.Release.{released_view, view_unreserved_on}
 use Rattle.write_hold.specs.Held.{Entry, held, holds}
 
-module _ (committed : FlatState) (h : ℕ) (cache : List (List Way)) (section : Section) (view : HartView) (hold : List Entry) (under : ℕ → ℕ)
+module _ (committed : FlatState) (h : ℕ) (cache : List (List Way)) (section : Section) (view : HartView)
+    (hold : List Entry) (under : ℕ → ℕ)
     (run : IsCoveredRun committed h cache section) (keeps : KeepsRun committed h section view hold)
     (release : is_release (alone committed h section.count) h section.word section.old ≡ true) where
   stores : StoresWord (alone committed h section.count) h section.word section.old
@@ -61,11 +63,13 @@ module _ (committed : FlatState) (h : ℕ) (cache : List (List Way)) (section : 
   last : alone committed h (section.count + 1) ≡ flat (alone committed h section.count) h
   last = alone_more committed h section.count
 
-  own : view_of (alone committed h (section.count + 1)) h ≡ view_after (section_execution committed section view hold under) view
+  own : view_of (alone committed h (section.count + 1)) h
+      ≡ view_after (section_execution committed section view hold under) view
   own =
       let shown = alone committed h section.count in
       ap (λ state. view_of state h) last ∙ own_view shown h (runs-exists shown h runs) runs
-      ∙ ap (view_after (next_execution shown h)) (sym keeps.view) ∙ ap (λ execution. view_after execution view) (sym does)
+      ∙ ap (view_after (next_execution shown h)) (sym keeps.view)
+      ∙ ap (λ execution. view_after execution view) (sym does)
 
   told : view_after (section_execution committed section view hold under) view
       ≡ released_view (insn_at (code_word committed.code view.pc)) view (section.new % 2 ^ 32)
@@ -75,25 +79,30 @@ module _ (committed : FlatState) (h : ℕ) (cache : List (List Way)) (section : 
       let lock = (shows_its_own committed h cache section run).lock in
       ap (λ execution. view_after execution view) does ∙ ap (view_after (next_execution shown h)) keeps.view
       ∙ (release_is shown h section.word section.old release).view
-      ∙ ap (λ insn. released_view insn (view_of shown h) found) (comes_to committed h cache section view hold run keeps).insn
+      ∙ ap (λ insn. released_view insn (view_of shown h) found)
+      (comes_to committed h cache section view hold run keeps).insn
       ∙ ap (λ seen. released_view (insn_at (code_word committed.code view.pc)) seen found) (sym keeps.view)
       ∙ ap (released_view (insn_at (code_word committed.code view.pc)) view)
-      (ap (λ base. loaded (byte_in base shown.bytes) section.word 4) (alone_shape committed h section.count).base ∙ lock)
+      (ap (λ base. loaded (byte_in base shown.bytes) section.word 4) (alone_shape committed h section.count).base
+      ∙ lock)
 
   output : (alone committed h (section.count + 1)).output ≡ committed.output
   output =
-      ap (λ state. state.output) last ∙ quiet_step (alone committed h section.count) h runs stores.goes_on ∙ output_shown committed h cache section run
+      ap (λ state. state.output) last ∙ quiet_step (alone committed h section.count) h runs stores.goes_on
+      ∙ output_shown committed h cache section run
 
   -- the lines that were written
   wrote : (line : ℕ) → WroteLine committed h (section.count + 1) line → is_written section.word hold line ≡ true
   wrote line is = by (written_since committed h section.count line is)
     where
-      by : (written_line (footprint_of (alone committed h section.count) h) ≡ Some line) ⊎ WroteLine committed h section.count line →
-          is_written section.word hold line ≡ true
+      by : (written_line (footprint_of (alone committed h section.count) h) ≡ Some line)
+          ⊎ WroteLine committed h section.count line → is_written section.word hold line ≡ true
       by (inl is) =
           let same : line_number section.word ≡ line =
-          same_Some _ line (sym (word_written (alone committed h section.count) h section.word section.old runs stores) ∙ is) in
-          or_left (line == line_number section.word) (holds hold line) (subst (λ line. (line == line_number section.word) ≡ true) same (own_test _))
+          same_Some _ line
+          (sym (word_written (alone committed h section.count) h section.word section.old runs stores) ∙ is) in
+          or_left (line == line_number section.word) (holds hold line)
+          (subst (λ line. (line == line_number section.word) ≡ true) same (own_test _))
       by (inr before) = (keeps.written line).0 before
 
   wrote_it : (line : ℕ) → is_written section.word hold line ≡ true → WroteLine committed h (section.count + 1) line
@@ -104,7 +113,8 @@ module _ (committed : FlatState) (h : ℕ) (cache : List (List Way)) (section : 
   others g apart =
       others_after committed h g (section.count + 1) apart
       ∙ unreserved_same (has_written committed h (section.count + 1)) (is_written section.word hold)
-      (λ line. same_lines committed h (section.count + 1) line (is_written section.word hold line) (wrote line) (wrote_it line)) (view_of committed g)
+      (λ line. same_lines committed h (section.count + 1) line (is_written section.word hold line) (wrote line)
+      (wrote_it line)) (view_of committed g)
 
   -- the bytes
   module _ (are_bytes : AreBytes committed.bytes) where
@@ -115,7 +125,8 @@ module _ (committed : FlatState) (h : ℕ) (cache : List (List Way)) (section : 
         shown : FlatState
         shown = alone committed h section.count
 
-        by : InWord section.word (committed.base + place) → slice_index (alone committed h (section.count + 1)).bytes place
+        by : InWord section.word (committed.base + place) →
+            slice_index (alone committed h (section.count + 1)).bytes place
             ≡ unwrap_or (held hold (committed.base + place)) (slice_index committed.bytes place)
         by (Inside low high) =
             let shape = alone_shape committed h section.count in
@@ -128,13 +139,16 @@ module _ (committed : FlatState) (h : ℕ) (cache : List (List Way)) (section : 
             ∙ ap (λ bytes. slice_index bytes place) (puts_word shown h section.word section.old runs stores)
             ∙ ap (λ value. slice_index (put_bytes shown.bytes (section.word - shown.base) 4 value) place)
             (acquires_at committed h cache run.before _ run.acquire).old
-            ∙ put_back shown.bytes committed.bytes committed.base section.word (section.word - shown.base) 4 place (omega arith) are_bytes size
+            ∙ put_back shown.bytes committed.bytes committed.base section.word (section.word - shown.base) 4 place
+            (omega arith) are_bytes size
             (omega arith) (omega arith) (omega arith)
-            ∙ ap (λ byte. unwrap_or byte (slice_index committed.bytes place)) (sym (keeps.free (committed.base + place) low high))
+            ∙ ap (λ byte. unwrap_or byte (slice_index committed.bytes place))
+            (sym (keeps.free (committed.base + place) low high))
         by (Outside out) =
             ap (λ state. slice_index state.bytes place) last
             ∙ keeps_outside shown h section.word section.old place runs stores
-            (subst (λ base. IsOutsideWord section.word (base + place)) (sym (alone_shape committed h section.count).base) out)
+            (subst (λ base. IsOutsideWord section.word (base + place))
+            (sym (alone_shape committed h section.count).base) out)
             ∙ held_or_committed committed h cache section view hold run keeps place out
 
 pub commits : SectionsCommit
@@ -156,4 +170,5 @@ commits committed h cache section view hold under are_bytes run keeps release =
     }
 
 pub released_view_told : ReleasedViewsAreTold
-released_view_told committed h cache section view hold under run keeps release = told committed h cache section view hold under run keeps release
+released_view_told committed h cache section view hold under run keeps release =
+    told committed h cache section view hold under run keeps release

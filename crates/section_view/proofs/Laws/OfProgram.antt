@@ -23,7 +23,8 @@ first_is program config = record {
   bytes = λ are. are;
 }
 
-run_is : (program : Program) (state : FlatState) (harts : List ℕ) → IsOfProgram program state → IsOfProgram program (run state harts)
+run_is : (program : Program) (state : FlatState) (harts : List ℕ) → IsOfProgram program state →
+    IsOfProgram program (run state harts)
 run_is program state harts is =
     let shape = run_shape state harts in
     record {
@@ -37,4 +38,5 @@ run_is program state harts is =
 pub committed_is : CommittedIsOfItsProgram
 committed_is program config events =
     subst (IsOfProgram program) (sym (serial_run (begin program config) events))
-    (run_is program (begin program config).committed (serial (entries_from (begin program config) events)) (first_is program config))
+    (run_is program (begin program config).committed (serial (entries_from (begin program config) events))
+    (first_is program config))

@@ -1,5 +1,6 @@
 -- what steps keep of the state, and an armed or a covered run of the output
-use Rattle.std.proofs.Common.{◌≡◌, ◌≤◌, ◌<◌, ◌+◌, ◌-◌, ◌∙◌, ◌⊎◌, ℕ, zero, suc, false, List, [], ◌∷◌, length, replicate, arith, refl, ap, sym, subst}
+use Rattle.std.proofs.Common.{◌≡◌, ◌≤◌, ◌<◌, ◌+◌, ◌-◌, ◌∙◌, ◌⊎◌, ℕ, zero, suc, false, List, [], ◌∷◌, length, replicate}
+use Rattle.std.proofs.Common.{arith, refl, ap, sym, subst}
 use Rattle.std.proofs.Common.{inl, inr}
 use Rattle.std.proofs.lemmas.Bool.{cases_lt}
 use Rattle.residency.specs.Residency.{Way}
@@ -48,22 +49,26 @@ pub alone_shape : (state : FlatState) (h n : ℕ) → SameShape state (alone sta
 alone_shape state h n = run_shape state (replicate n h)
 
 -- an instruction that makes no call leaves the output
-pub quiet_step : (state : FlatState) (h : ℕ) → status_of state h ≡ Running → calls_or_stops state h ≡ false → (flat state h).output ≡ state.output
+pub quiet_step : (state : FlatState) (h : ℕ) → status_of state h ≡ Running → calls_or_stops state h ≡ false →
+    (flat state h).output ≡ state.output
 quiet_step state h runs goes_on =
     let view = view_of state h in
     let word = code_word state.code view.pc in
-    let none = no_call (next_insn state h) (first_not (calls (next_insn state h)) (stops (next_execution state h)) goes_on) in
+    let none =
+    no_call (next_insn state h) (first_not (calls (next_insn state h)) (stops (next_execution state h)) goes_on) in
     ap (λ new. new.output) (running state h runs)
-    ∙ ap (λ append. appended_by append state.base state.bytes state.output) (executed-append word view (span_of state) (room_of state) _ none)
+    ∙ ap (λ append. appended_by append state.base state.bytes state.output)
+    (executed-append word view (span_of state) (room_of state) _ none)
 
 -- each instruction before an acquire goes on
-before_goes_on : (committed : FlatState) (h : ℕ) (cache : List (List Way)) (before : ℕ) (swap : Swap) → IsAcquire committed h cache before swap →
-    (n : ℕ) → n < before → calls_or_stops (alone committed h n) h ≡ false
+before_goes_on : (committed : FlatState) (h : ℕ) (cache : List (List Way)) (before : ℕ) (swap : Swap) →
+    IsAcquire committed h cache before swap → (n : ℕ) → n < before → calls_or_stops (alone committed h n) h ≡ false
 before_goes_on committed h cache zero swap is n less = absurd (omega (arith, less))
 before_goes_on committed h cache (suc before) swap (run, is) n less =
     (silent_at committed h cache (record { count = suc before; word = swap.word }) run n less).goes_on
 
-module _ (committed : FlatState) (h : ℕ) (cache : List (List Way)) (section : Section) (run : IsCoveredRun committed h cache section) where
+module _ (committed : FlatState) (h : ℕ) (cache : List (List Way)) (section : Section)
+    (run : IsCoveredRun committed h cache section) where
   -- so does each of a covered run
   pub goes_on_at : (n : ℕ) → n < section.count → calls_or_stops (alone committed h n) h ≡ false
   goes_on_at n less = by (cases_lt n run.before)
@@ -73,11 +78,13 @@ module _ (committed : FlatState) (h : ℕ) (cache : List (List Way)) (section : 
       later (inr within) from =
           let same : run.before ≡ n = omega (arith, from, within) in
           subst (λ n. calls_or_stops (alone committed h n) h ≡ false) same
-          (acquires_at committed h cache run.before (record { word = section.word; old = section.old; new = section.new }) run.acquire).stores.goes_on
+          (acquires_at committed h cache run.before
+          (record { word = section.word; old = section.old; new = section.new }) run.acquire).stores.goes_on
 
       by : (n < run.before) ⊎ (run.before ≤ n) → calls_or_stops (alone committed h n) h ≡ false
       by (inl before) =
-          before_goes_on committed h cache run.before (record { word = section.word; old = section.old; new = section.new }) run.acquire n before
+          before_goes_on committed h cache run.before
+          (record { word = section.word; old = section.old; new = section.new }) run.acquire n before
       by (inr from) = later (cases_lt run.before n) from
 
   output_at : (n : ℕ) → n ≤ section.count → (alone committed h n).output ≡ committed.output
@@ -86,7 +93,8 @@ module _ (committed : FlatState) (h : ℕ) (cache : List (List Way)) (section : 
       let next : n + 1 ≡ suc n = omega arith in
       subst (λ n. (alone committed h n).output ≡ committed.output) next
       (ap (λ new. new.output) (alone_more committed h n)
-      ∙ quiet_step (alone committed h n) h (run.running n (omega arith)) (goes_on_at n (omega arith)) ∙ output_at n (omega arith))
+      ∙ quiet_step (alone committed h n) h (run.running n (omega arith)) (goes_on_at n (omega arith))
+      ∙ output_at n (omega arith))
 
   pub output_shown : (alone committed h section.count).output ≡ committed.output
   output_shown = output_at section.count (omega arith)
@@ -94,25 +102,29 @@ module _ (committed : FlatState) (h : ℕ) (cache : List (List Way)) (section : 
 -- what comes next is the same where code, memory and room are
 pub span_shape : (old new : FlatState) → SameShape old new → span_of new ≡ span_of old
 span_shape old new same =
-    ap (λ base. record { base = base; end = base + length new.bytes }) same.base ∙ ap (λ size. record { base = old.base; end = old.base + size }) same.size
+    ap (λ base. record { base = base; end = base + length new.bytes }) same.base
+    ∙ ap (λ size. record { base = old.base; end = old.base + size }) same.size
 
 pub room_shape : (old new : FlatState) → new.output ≡ old.output → room_of new ≡ room_of old
 room_shape old new same = ap (λ output. output_limit - length output) same
 
 -- what comes next is what a view comes to in what is committed, where memory's shape and the output are as they were
-pub comes_alike : (committed shown : FlatState) (h : ℕ) (view : HartView) → view ≡ view_of shown h → SameShape committed shown →
-    shown.output ≡ committed.output → ComesTo committed shown h view
+pub comes_alike : (committed shown : FlatState) (h : ℕ) (view : HartView) → view ≡ view_of shown h →
+    SameShape committed shown → shown.output ≡ committed.output → ComesTo committed shown h view
 comes_alike committed shown h view is same output = record {
   insn =
-      ap (λ view. insn_at (code_word shown.code view.pc)) (sym is) ∙ ap (λ code. insn_at (code_word code view.pc)) same.code;
+      ap (λ view. insn_at (code_word shown.code view.pc)) (sym is)
+      ∙ ap (λ code. insn_at (code_word code view.pc)) same.code;
   action =
       ap (λ code. action_at (code_word code view.pc) view (span_of shown) (room_of shown)) same.code
-      ∙ ap (λ span. action_at (code_word committed.code view.pc) view span (room_of shown)) (span_shape committed shown same)
+      ∙ ap (λ span. action_at (code_word committed.code view.pc) view span (room_of shown))
+      (span_shape committed shown same)
       ∙ ap (action_at (code_word committed.code view.pc) view (span_of committed)) (room_shape committed shown output);
   access =
       ap (touched_by shown) (sym is)
       ∙ ap (λ code. touched (code_word code view.pc) view (span_of shown) (room_of shown)) same.code
-      ∙ ap (λ span. touched (code_word committed.code view.pc) view span (room_of shown)) (span_shape committed shown same)
+      ∙ ap (λ span. touched (code_word committed.code view.pc) view span (room_of shown))
+      (span_shape committed shown same)
       ∙ ap (touched (code_word committed.code view.pc) view (span_of committed)) (room_shape committed shown output);
 }
 

@@ -27,4 +27,5 @@ pub past_blocked : (state : ModelState) (request : Request) (obstacle : Obstacle
     blocked_by obstacle ≡ Some blocked → serve_past state request obstacle ≡ record { state = state; outcome = blocked }
 past_blocked state request Free blocked is = absurd (cc)
 past_blocked state request (Blocks why by) blocked is =
-    let same : Blocked why (hart_id by) ≡ blocked = cc in ap (λ outcome. record { state = state; outcome = outcome }) same
+    let same : Blocked why (hart_id by) ≡ blocked =
+    cc in ap (λ outcome. record { state = state; outcome = outcome }) same

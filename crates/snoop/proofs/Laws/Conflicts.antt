@@ -46,10 +46,15 @@ and_twice false b c = refl
 
 -- the test that the bus makes is the definition's
 pub conflicts_shown : (bus : BusState) (state : ModelState) (request : Request) (h : ℕ) → Shows bus state →
-    (not (request.hart == h) && (lives_at bus h && meets_in (slotted_at bus.copies.caches h).residency request.line request.need))
+    (not (request.hart == h)
+    && (lives_at bus h && meets_in (slotted_at bus.copies.caches h).residency request.line request.need))
     ≡ conflicts request h (hart_of state h)
 conflicts_shown bus state request h shows =
-    ap (λ cache. not (request.hart == h) && (lives_at bus h && meets_in cache request.line request.need)) (shows.caches h)
-    ∙ ap (λ live. not (request.hart == h) && (live && meets_in (hart_of state h).cache request.line request.need)) (lives_shown bus state h shows)
-    ∙ ap (λ meets. not (request.hart == h) && (is_some (hart_of state h).section && meets)) (meets_same (hart_of state h) request.line request.need)
-    ∙ and_twice (not (request.hart == h)) (is_some (hart_of state h).section) (meets_bit (hart_of state h) request.line request.need)
+    ap (λ cache. not (request.hart == h) && (lives_at bus h && meets_in cache request.line request.need))
+    (shows.caches h)
+    ∙ ap (λ live. not (request.hart == h) && (live && meets_in (hart_of state h).cache request.line request.need))
+    (lives_shown bus state h shows)
+    ∙ ap (λ meets. not (request.hart == h) && (is_some (hart_of state h).section && meets))
+    (meets_same (hart_of state h) request.line request.need)
+    ∙ and_twice (not (request.hart == h)) (is_some (hart_of state h).section)
+    (meets_bit (hart_of state h) request.line request.need)

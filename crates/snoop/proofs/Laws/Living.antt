@@ -1,5 +1,6 @@
 -- who has a live section: what the bus keeps of it tells what the definition says
-use Rattle.std.proofs.Common.{◌≡◌, ◌∙◌, ℕ, ◌≤◌, ◌==◌, ◌&&◌, not, Bool, true, false, List, None, is_some, refl, ap, sym, arith}
+use Rattle.std.proofs.Common.{◌≡◌, ◌∙◌, ℕ, ◌≤◌, ◌==◌, ◌&&◌, not, Bool, true, false, List, None, is_some, refl, ap, sym}
+use Rattle.std.proofs.Common.{arith}
 use Rattle.std.proofs.lemmas.Bool.Decides.{nat_tests}
 use Rattle.std.proofs.Math.Bool.{and-false, and-true}
 use Rattle.residency.specs.Cache.{cleared, has_marks}
@@ -22,15 +23,16 @@ lives_armed cache count some =
     ap (λ none. has_marks cache && none) armed ∙ and-false (has_marks cache)
 
 -- for an armed hart the bits are no matter
-pub lives_alike : (one other : List (List Way)) (count : ℕ) → (count ≡ 0 → has_marks one ≡ has_marks other) → lives one count ≡ lives other count
+pub lives_alike : (one other : List (List Way)) (count : ℕ) → (count ≡ 0 → has_marks one ≡ has_marks other) →
+    lives one count ≡ lives other count
 lives_alike one other count alike = by (count == 0) refl
   where
     by : (test : Bool) → (count == 0) ≡ test → (has_marks one && test) ≡ (has_marks other && test)
     by true none = ap (λ marks. marks && true) (alike (number_of_test count 0 none))
     by false some = and-false (has_marks one) ∙ sym (and-false (has_marks other))
 
--- a hart of which the bus tells whether it has a live section: it has one exactly where some line of its cache has a bit and it is not
--- armed, and an armed one has run an instruction
+-- a hart of which the bus tells whether it has a live section: it has one exactly where some line of its cache has a
+-- bit and it is not armed, and an armed one has run an instruction
 pub record TellsSection (hart : Hart) : Type 0 where
   pub live : is_some hart.section ≡ lives hart.cache (armed_count hart.armed)
   pub arms : is_some hart.armed ≡ not (armed_count hart.armed == 0)
@@ -49,8 +51,8 @@ tells_yet old new section armed cache was = record {
 pub tells_nothing : TellsSection (new_hart 0)
 tells_nothing = record { live = refl; arms = refl }
 
-pub tells_cleared : (hart : Hart) (cache : List (List Way)) → is_some hart.section ≡ false → hart.armed ≡ None → hart.cache ≡ cleared cache →
-    TellsSection hart
+pub tells_cleared : (hart : Hart) (cache : List (List Way)) → is_some hart.section ≡ false → hart.armed ≡ None →
+    hart.cache ≡ cleared cache → TellsSection hart
 tells_cleared hart cache section armed is = record {
   live = section ∙ rw (armed, is) (sym (lives_unarmed (cleared cache) 0 refl ∙ unmarked-cleared cache));
   arms = rw armed refl;
@@ -58,7 +60,8 @@ tells_cleared hart cache section armed is = record {
 
 -- a hart with a live section is not armed
 pub live_unarmed : (hart : Hart) → TellsSection hart → is_some hart.section ≡ true → armed_count hart.armed ≡ 0
-live_unarmed hart told live = number_of_test (armed_count hart.armed) 0 (second (has_marks hart.cache) _ (sym told.live ∙ live))
+live_unarmed hart told live =
+    number_of_test (armed_count hart.armed) 0 (second (has_marks hart.cache) _ (sym told.live ∙ live))
   where
     second : (a b : Bool) → (a && b) ≡ true → b ≡ true
     second true b is = is
@@ -67,7 +70,8 @@ live_unarmed hart told live = number_of_test (armed_count hart.armed) 0 (second 
 -- and an armed one has none
 pub armed_lifeless : (hart : Hart) → TellsSection hart → is_some hart.armed ≡ true → is_some hart.section ≡ false
 armed_lifeless hart told armed =
-    told.live ∙ ap (λ none. has_marks hart.cache && none) (not_true _ (sym told.arms ∙ armed)) ∙ and-false (has_marks hart.cache)
+    told.live ∙ ap (λ none. has_marks hart.cache && none) (not_true _ (sym told.arms ∙ armed))
+    ∙ and-false (has_marks hart.cache)
   where
     not_true : (b : Bool) → not b ≡ true → b ≡ false
     not_true true is = absurd (cc)

@@ -32,25 +32,28 @@ use Rattle.snoop.specs.Shows.{CanBeServed, IsReady, BusState, Shows, Tells, has_
 use Rattle.el_base.proofs.Laws.Cases.{none_some}
 
 -- the caches after one was given back
-returned_same : (bus : BusState) (h : ℕ) (cache : Slotted) → h < length bus.copies.caches → slotted_at (returned bus h cache).copies.caches h ≡ cache
+returned_same : (bus : BusState) (h : ℕ) (cache : Slotted) → h < length bus.copies.caches →
+    slotted_at (returned bus h cache).copies.caches h ≡ cache
 returned_same bus h cache inside = get_or-set_same bus.copies.caches h cache no_slotted inside
 
 returned_other : (bus : BusState) (h g : ℕ) (cache : Slotted) → g ≢ h →
     slotted_at (returned bus h cache).copies.caches g ≡ slotted_at bus.copies.caches g
 returned_other bus h g cache other = get_or-set_other bus.copies.caches h g cache no_slotted other
 
-count_returned : (bus : BusState) (h : ℕ) (cache : Slotted) → length (returned bus h cache).copies.caches ≡ length bus.copies.caches
+count_returned : (bus : BusState) (h : ℕ) (cache : Slotted) →
+    length (returned bus h cache).copies.caches ≡ length bus.copies.caches
 count_returned bus h cache = length-set bus.copies.caches h cache
 
-pub ready_returned : (bus : BusState) (h : ℕ) (cache : Slotted) → h < length bus.copies.caches → IsReady bus → IsReturned bus h cache →
-    IsReady (returned bus h cache)
+pub ready_returned : (bus : BusState) (h : ℕ) (cache : Slotted) → h < length bus.copies.caches → IsReady bus →
+    IsReturned bus h cache → IsReady (returned bus h cache)
 ready_returned bus h cache inside ready back = record {
   few = ready.few;
   each = count_returned bus h cache ∙ ready.each;
   well_formed = λ g below. elim (cases_eq g h) [
     | inl own ↦
         subst (λ c. IsWellFormed c.ways c.residency)
-        (sym (ap (slotted_at (returned bus h cache).copies.caches) own ∙ returned_same bus h cache inside)) back.well_formed
+        (sym (ap (slotted_at (returned bus h cache).copies.caches) own ∙ returned_same bus h cache inside))
+        back.well_formed
     | inr other ↦
         subst (λ c. IsWellFormed c.ways c.residency) (sym (returned_other bus h g cache other))
         (ready.well_formed g (omega (arith, below, count_returned bus h cache)))
@@ -59,13 +62,15 @@ ready_returned bus h cache inside ready back = record {
     | inl own ↦
         still g request (ready.raised g request is)
         (own_room g request own (back.raised request (ap (λ k. (agent_at bus.agents k).raised) (sym own) ∙ is)))
-    | inr other ↦ still g request (ready.raised g request is) (other_room g request other (ready.raised g request is).room)
+    | inr other ↦ still g request (ready.raised g request is)
+        (other_room g request other (ready.raised g request is).room)
   ];
   ordered = λ g request is. elim (cases_eq g h) [
     | inl own ↦
         still g request (ready.ordered g request is)
         (own_room g request own (back.ordered request (ap (request_of bus.order) (sym own) ∙ is)))
-    | inr other ↦ still g request (ready.ordered g request is) (other_room g request other (ready.ordered g request is).room)
+    | inr other ↦ still g request (ready.ordered g request is)
+        (other_room g request other (ready.ordered g request is).room)
   ];
   once = ready.once;
   one_request = ready.one_request;
@@ -81,9 +86,10 @@ ready_returned bus h cache inside ready back = record {
   ];
 }
   where
-    still : (g : ℕ) (request : Request) → CanBeServed bus g request → has_room_in (returned bus h cache).copies g request.line ≡ true →
-        CanBeServed (returned bus h cache) g request
-    still g request can room = record { own = can.own; hart_exists = can.hart_exists; in_memory = can.in_memory; room = room }
+    still : (g : ℕ) (request : Request) → CanBeServed bus g request →
+        has_room_in (returned bus h cache).copies g request.line ≡ true → CanBeServed (returned bus h cache) g request
+    still g request can room =
+        record { own = can.own; hart_exists = can.hart_exists; in_memory = can.in_memory; room = room }
 
     own_room : (g : ℕ) (request : Request) → g ≡ h → room_of cache.ways cache.residency request.line ≡ true →
         has_room_in (returned bus h cache).copies g request.line ≡ true
@@ -93,11 +99,12 @@ ready_returned bus h cache inside ready back = record {
 
     other_room : (g : ℕ) (request : Request) → g ≢ h → has_room_in bus.copies g request.line ≡ true →
         has_room_in (returned bus h cache).copies g request.line ≡ true
-    other_room g request other room = ap (λ c. room_of c.ways c.residency request.line) (returned_other bus h g cache other) ∙ room
+    other_room g request other room =
+        ap (λ c. room_of c.ways c.residency request.line) (returned_other bus h g cache other) ∙ room
 
 -- a line that was touched and got the letter M leaves its cache well formed
-pub well_formed_by_calls : (old between new : Cached) (line : ℕ) → IsWellFormed old.ways old.residency → IsTouched old between line →
-    IsLettered between new line M → IsWellFormed new.ways new.residency
+pub well_formed_by_calls : (old between new : Cached) (line : ℕ) → IsWellFormed old.ways old.residency →
+    IsTouched old between line → IsLettered between new line M → IsWellFormed new.ways new.residency
 well_formed_by_calls old between new line well_formed touches letters =
     rw (letters.ways, letters.residency, touches.ways, touches.residency)
     (well_formed-lettered old.ways (touched old.residency line) line M (λ same. cc)
@@ -111,8 +118,9 @@ unmarked_by_calls old between new line none touches letters =
     (unmarked-lettered (touched old.residency line) line M (unmarked-touched old.residency line none))
 
 -- a hart that waits for nothing gives back a cache
-pub unasked_returned : (bus : BusState) (h : ℕ) (cache : Slotted) → HasNoRequest bus h → IsWellFormed cache.ways cache.residency →
-    (bus.mode ≡ Plain → has_marks cache.residency ≡ false) → IsReturned bus h cache
+pub unasked_returned : (bus : BusState) (h : ℕ) (cache : Slotted) → HasNoRequest bus h →
+    IsWellFormed cache.ways cache.residency → (bus.mode ≡ Plain → has_marks cache.residency ≡ false) →
+    IsReturned bus h cache
 unasked_returned bus h cache no_request well_formed unmarked = record {
   well_formed = well_formed;
   raised = λ request is. none_some (sym no_request.none_raised ∙ is);
@@ -121,9 +129,9 @@ unasked_returned bus h cache no_request well_formed unmarked = record {
 }
 
 -- what a pool and the caches tell after a hart's cache was changed in it, which left those of the other harts
-pub told_returned : (old new : Pooled) (bus : BusState) (h : ℕ) (cache : Slotted) (bytes told : ℕ → List ℕ) → Tells old bus bytes →
-    h < length bus.copies.caches → cache.owner ≡ (slotted_at bus.copies.caches h).owner → IsLent new cache →
-    ((g : ℕ) → g ≢ h → g < length bus.copies.caches → LeavesOwner g old new) →
+pub told_returned : (old new : Pooled) (bus : BusState) (h : ℕ) (cache : Slotted) (bytes told : ℕ → List ℕ) →
+    Tells old bus bytes → h < length bus.copies.caches → cache.owner ≡ (slotted_at bus.copies.caches h).owner →
+    IsLent new cache → ((g : ℕ) → g ≢ h → g < length bus.copies.caches → LeavesOwner g old new) →
     TellsOf (copies_with (lent_copies old bus.copies) h (lent new cache)) told → Tells new (returned bus h cache) told
 told_returned old new bus h cache bytes told tells inside owner kept leaves is = record {
   lent = lent_back old new bus.copies.caches h cache tells.lent leaves (owner ∙ tells.lent.owned h inside) kept;
@@ -131,14 +139,15 @@ told_returned old new bus h cache bytes told tells inside owner kept leaves is =
       (sym (caches_back old new bus.copies.caches h cache tells.lent leaves)) is;
 }
 
-pub shows_returned : (bus : BusState) (state : ModelState) (h : ℕ) (cache : Slotted) (hart : Hart) (committed : FlatState) →
-    h < length bus.copies.caches → Shows bus state → IsReturnedAs bus state h cache hart committed →
-    Shows (returned bus h cache) (state_with state h hart committed)
+pub shows_returned : (bus : BusState) (state : ModelState) (h : ℕ) (cache : Slotted) (hart : Hart)
+    (committed : FlatState) → h < length bus.copies.caches → Shows bus state →
+    IsReturnedAs bus state h cache hart committed → Shows (returned bus h cache) (state_with state h hart committed)
 shows_returned bus state h cache hart committed inside shows back = record {
   mode = shows.mode;
   ways = λ g below. elim (cases_eq g h) [
     | inl own ↦ ap (λ c. c.ways) (own_cache g own) ∙ back.ways ∙ shows.ways h (omega (arith, inside, shows.cache_each))
-    | inr other ↦ ap (λ c. c.ways) (returned_other bus h g cache other) ∙ shows.ways g (omega (arith, below, same_harts))
+    | inr other ↦ ap (λ c. c.ways) (returned_other bus h g cache other)
+        ∙ shows.ways g (omega (arith, below, same_harts))
   ];
   agent_each = shows.agent_each ∙ sym same_harts;
   cache_each = count_returned bus h cache ∙ shows.cache_each ∙ sym same_harts;

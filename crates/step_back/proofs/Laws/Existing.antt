@@ -29,8 +29,9 @@ effect_exists harts long h (Served losers freed) exists can = order_exists freed
 effect_exists harts long h _ exists can = All-nil (λ hart. hart < harts)
 
 -- where the harts of the events exist, and those that the outcomes name, so do those whose instructions take effect
-pub serial_exists : (harts long : ℕ) (entries : List Entry) → All (λ event. event.hart.number < harts) (events entries) →
-    All (CanBeRecorded harts long) (outcomes entries) → All (λ hart. hart < harts) (serial entries)
+pub serial_exists : (harts long : ℕ) (entries : List Entry) →
+    All (λ event. event.hart.number < harts) (events entries) → All (CanBeRecorded harts long) (outcomes entries) →
+    All (λ hart. hart < harts) (serial entries)
 serial_exists harts long [] exist can = All-nil (λ hart. hart < harts)
 serial_exists harts long (entry ∷ entries) exist can =
     All-append (λ hart. hart < harts) (taking_effect entry.event.hart.number entry.outcome) (serial entries)
@@ -40,8 +41,8 @@ serial_exists harts long (entry ∷ entries) exist can =
     (λ k d within. can (suc k) d (omega arith)))
 
 -- so they do in a run of a program
-pub run_exists : (program : Program) (config : Config) (made : List Event) → program.harts ≡ config.harts → IsInRange config →
-    All (λ event. event.hart.number < config.harts) made →
+pub run_exists : (program : Program) (config : Config) (made : List Event) → program.harts ≡ config.harts →
+    IsInRange config → All (λ event. event.hart.number < config.harts) made →
     All (λ hart. hart < program.harts) (serial (entries_from (begin program config) made))
 run_exists program config made same range exist =
     let entries : List Entry = entries_from (begin program config) made in
@@ -50,4 +51,5 @@ run_exists program config made same range exist =
     subst (λ harts. All (λ hart. hart < harts) (serial entries)) (sym same)
     (serial_exists config.harts config.long entries
     (subst Made (sym (events-entries_from (begin program config) made)) exist)
-    (subst Recorded (sym (outcomes-entries_from (begin program config) made)) (outcomes_can_be_recorded program config made same range)))
+    (subst Recorded (sym (outcomes-entries_from (begin program config) made))
+    (outcomes_can_be_recorded program config made same range)))

@@ -1,5 +1,6 @@
 -- The places at which a hart comes to a pc, as a list that grows with the place.
-use Rattle.std.proofs.Common.{◌≡◌, ◌≢◌, ℕ, ◌+◌, ◌-◌, ◌<◌, ◌≤◌, ◌==◌, ◌&&◌, Bool, true, false, not, List, [], ◌∷◌, ◌++◌, length, refl, ap, ◌∙◌}
+use Rattle.std.proofs.Common.{◌≡◌, ◌≢◌, ℕ, ◌+◌, ◌-◌, ◌<◌, ◌≤◌, ◌==◌, ◌&&◌, Bool, true, false, not, List, [], ◌∷◌, ◌++◌}
+use Rattle.std.proofs.Common.{length, refl, ap, ◌∙◌}
 use Rattle.std.proofs.Common.{append-nil, zero, suc, arith}
 use Rattle.std.proofs.lemmas.Bool.Decides.{nat_tests}
 use Rattle.std.proofs.lemmas.List.Elements.{filter-append}
@@ -39,7 +40,8 @@ module _ (test : ℕ → Bool) where
       rw (none first (omega arith) (omega arith))
       (quiet (first + 1) count (λ n low high. none n (omega (arith, low)) (omega (arith, high))))
 
-  range_split : (first one more : ℕ) → range_with_len first (one + more) ≡ range_with_len first one ++ range_with_len (first + one) more
+  range_split : (first one more : ℕ) →
+      range_with_len first (one + more) ≡ range_with_len first one ++ range_with_len (first + one) more
   range_split first zero more =
       let none : 0 + more ≡ more = omega arith in
       let same : first ≡ first + 0 = omega arith in
@@ -98,7 +100,8 @@ module _ (standing : Standing) (hart pc : ℕ) where
   abbrev pub places_to : ℕ → List ℕ
   places_to place = filter (comes_to standing.program standing.entries hart pc) (range_with_len 1 place)
 
-  pub next_place : (place : ℕ) → IsNext standing hart pc place → places_to place ≡ places_to standing.place ++ place ∷ []
+  pub next_place : (place : ℕ) → IsNext standing hart pc place →
+      places_to place ≡ places_to standing.place ++ place ∷ []
   next_place place next =
       one_more_place (comes_to standing.program standing.entries hart pc) standing.place place next.later
       (λ n low high. did_not_come standing.program standing.entries hart pc n (next.least n low high))
@@ -113,6 +116,7 @@ module _ (standing : Standing) (hart pc : ℕ) where
   pub places_split : (place : ℕ) → place ≤ length standing.entries →
       places_of standing.program standing.entries hart pc
       ≡ places_to place
-      ++ filter (comes_to standing.program standing.entries hart pc) (range_with_len (1 + place) (length standing.entries - place))
+      ++ filter (comes_to standing.program standing.entries hart pc)
+      (range_with_len (1 + place) (length standing.entries - place))
   places_split place within =
       parted (comes_to standing.program standing.entries hart pc) place (length standing.entries) within

@@ -19,7 +19,8 @@ use Rattle.step_laws.specs.Frames.{BusEventsKeep, LeavesOthers, StepsKeepOthers}
 abbrev SamePredictor : ModelState → ℕ → Hart → Type 0
 SamePredictor old g hart = hart.predictor ≡ (hart_of old g).predictor
 
-claim_predictor : (live : Bool) (request : Request) (hart : Hart) → (with_claim live request hart).predictor ≡ hart.predictor
+claim_predictor : (live : Bool) (request : Request) (hart : Hart) →
+    (with_claim live request hart).predictor ≡ hart.predictor
 claim_predictor true request hart = refl
 claim_predictor false request hart = refl
 
@@ -50,7 +51,8 @@ bus_events_keep state event bus =
       count = done.count;
     }
 
-kind_others : (state : ModelState) (h : ℕ) (kind : Kind) → kind ≡ kinds.Step → LeavesOthers state (kind_turn state h kind).state h
+kind_others : (state : ModelState) (h : ℕ) (kind : Kind) → kind ≡ kinds.Step →
+    LeavesOthers state (kind_turn state h kind).state h
 kind_others state h kinds.Step is =
     let step = step_deed state h in
     rw step.turn_is

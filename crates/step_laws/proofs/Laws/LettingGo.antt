@@ -1,4 +1,5 @@
--- an event of the bus lets go the harts that its outcome tells, and leaves all else that is committed and each other armed section
+-- an event of the bus lets go the harts that its outcome tells, and leaves all else that is
+-- committed and each other armed section
 use Rattle.std.proofs.Common.{◌≡◌, ◌∙◌, ◌≤◌, ◌<◌, ◌+◌, ◌-◌, ◌==◌, ◌⊎◌, ℕ, zero, suc}
 use Rattle.std.proofs.Common.{Bool, true, false, List, [], ◌∷◌, ◌++◌, Option, None, Some, is_some, length}
 use Rattle.std.proofs.Common.{replicate, refl, ap, sym, subst, inl, inr, arith, if◌then◌else◌}
@@ -98,7 +99,9 @@ counted_below freed zero g n is =
 counted_below freed (suc k) g n is =
     let one : n ≡ suc (suc g + k) = omega (arith, is) in
     let rest = counted_below freed k g (suc g + k) refl in
-    let last = times-other g (suc g + k) (count_in freed (suc g + k)) (other_test (suc g + k) g (λ same. absurd (omega (arith, same)))) in
+    let last =
+    times-other g (suc g + k) (count_in freed (suc g + k))
+    (other_test (suc g + k) g (λ same. absurd (omega (arith, same)))) in
     let more = one_hart_more freed g (suc g + k) in
     ap (λ m. times g (order_below m freed)) one ∙ omega (arith, rest, last, more)
 
@@ -111,7 +114,8 @@ counted freed g = by (nat_lt g 8) refl
     by false is =
         let past = ltb-false g 8 is in not_below freed g 8 past ∙ sym (count_in-beyond freed g past)
 
-told_of : (h g : ℕ) (outcome : Outcome) → IsOfBus outcome → count_in (freed_of_outcome outcome) g ≡ times g (taking_effect h outcome)
+told_of : (h g : ℕ) (outcome : Outcome) → IsOfBus outcome →
+    count_in (freed_of_outcome outcome) g ≡ times g (taking_effect h outcome)
 told_of h g outcomes.Idle of_bus = none_in_no_one g
 told_of h g (outcomes.Ordered losers freed) of_bus = sym (counted freed g)
 told_of h g (outcomes.Served losers freed) of_bus = sym (counted freed g)
@@ -129,14 +133,16 @@ record AreKept (state : ModelState) (g : ℕ) (armed : Option Armed) (last : Opt
   armed_is : armed ≡ armed_of state g
   last_is : last ≡ (hart_of state g).last_lr
 
-record AreLetGo (state : ModelState) (by : ℕ) (start : Start) (g : ℕ) (armed : Option Armed) (last : Option ℕ) : Type 0 where
+record AreLetGo (state : ModelState) (by : ℕ) (start : Start) (g : ℕ) (armed : Option Armed)
+    (last : Option ℕ) : Type 0 where
   head : Request
   frees : Frees state by start g head
   over : armed ≡ None
   pc : last ≡ Some (view_of state.committed g).pc
 
 abbrev KeptOrLetGo : ModelState → ℕ → Start → ℕ → Hart → Type 0
-KeptOrLetGo state by start g hart = AreKept state g hart.armed hart.last_lr ⊎ AreLetGo state by start g hart.armed hart.last_lr
+KeptOrLetGo state by start g hart =
+    AreKept state g hart.armed hart.last_lr ⊎ AreLetGo state by start g hart.armed hart.last_lr
 
 claim_last : (live : Bool) (request : Request) (hart : Hart) → (with_claim live request hart).last_lr ≡ hart.last_lr
 claim_last true request hart = refl
@@ -153,13 +159,16 @@ Kept state g hart = AreKept state g hart.armed hart.last_lr
 all_kept : (state : ModelState) (g : ℕ) → Kept state g (hart_of state g)
 all_kept state g = record { armed_is = refl; last_is = refl }
 
-started_kept : (state : ModelState) (by : ℕ) (start : Start) (g : ℕ) → Kept state g (started state by start g (hart_of state g))
+started_kept : (state : ModelState) (by : ℕ) (start : Start) (g : ℕ) →
+    Kept state g (started state by start g (hart_of state g))
 started_kept state by Nothing g = all_kept state g
 started_kept state by (Places request place) g =
-    by_hart (Kept state g) g request.hart (record (hart_of state g) { raised = None }) (hart_of state g) (λ own. all_kept state g)
+    by_hart (Kept state g) g request.hart (record (hart_of state g) { raised = None }) (hart_of state g)
+    (λ own. all_kept state g)
     (λ other. all_kept state g)
 started_kept state by (Serves request) g =
-    by_hart (Kept state g) g request.hart (served_hart state request (hart_of state g)) (bystander state request (hart_of state g))
+    by_hart (Kept state g) g request.hart (served_hart state request (hart_of state g))
+    (bystander state request (hart_of state g))
     (λ own.
     record {
       armed_is = claim_armed (is_some (section_of state g)) request _;
@@ -167,12 +176,14 @@ started_kept state by (Serves request) g =
     })
     (λ other. all_kept state g)
 started_kept state by (Takes message others) g =
-    by_hart (Kept state g) g by (having_taken message others (hart_of state g)) (hart_of state g) (λ own. taken_kept state message others g)
+    by_hart (Kept state g) g by (having_taken message others (hart_of state g)) (hart_of state g)
+    (λ own. taken_kept state message others g)
     (λ other. all_kept state g)
 
 -- a hart that loses a section is none that was armed
 try_last : (hart : Hart) (last : Bool) →
-    (if last then record hart { tries = 0; fallback = true } else record hart { tries = hart.tries + 1 }).last_lr ≡ hart.last_lr
+    (if last then record hart { tries = 0; fallback = true } else record hart { tries = hart.tries + 1 }).last_lr
+    ≡ hart.last_lr
 try_last hart true = refl
 try_last hart false = refl
 
@@ -189,8 +200,9 @@ loser_unarmed state by g rested loses = by_section (section_of state g) refl
     by_section None none = absurd (loser_lives state by loses none)
     by_section (Some section) live = live_unarmed state g section rested live
 
-lost_kept : (state : ModelState) (by : ℕ) (start : Start) (g : ℕ) (stamp : Option Stamp) (hart : Hart) → armed_of state g ≡ None →
-    KeptOrLetGo state by start g hart → KeptOrLetGo state by start g (beaten state.config.mode stamp hart)
+lost_kept : (state : ModelState) (by : ℕ) (start : Start) (g : ℕ) (stamp : Option Stamp) (hart : Hart) →
+    armed_of state g ≡ None → KeptOrLetGo state by start g hart →
+    KeptOrLetGo state by start g (beaten state.config.mode stamp hart)
 lost_kept state by start g stamp hart none (inl kept) =
     inl (record {
       armed_is = beaten_armed state.config.mode stamp hart ∙ sym none;
@@ -213,7 +225,8 @@ kept_or_let_go state by start g rested (IsLetGo head hart frees now) =
     inr (record { head = head; frees = frees; over = refl; pc = refl })
 kept_or_let_go state by start g rested (Sees head lost hart defers now) = kept_or_let_go state by start g rested now
 kept_or_let_go state by start g rested (LosesIt winner stamp hart loses now) =
-    lost_kept state by start g stamp hart (loser_unarmed state by g rested loses) (kept_or_let_go state by start g rested now)
+    lost_kept state by start g stamp hart (loser_unarmed state by g rested loses)
+    (kept_or_let_go state by start g rested now)
 
 -- a hart that is let go counts with all its instructions
 record IsCounted (state : ModelState) (by : ℕ) (start : Start) (g : ℕ) : Type 0 where
@@ -233,9 +246,12 @@ module _ (state : ModelState) (by : ℕ) (start : Start) (few : length state.har
           none_some (sym (ap (λ hart. hart.armed) (hart_of-past state g (ltb-false g (length state.harts) past))) ∙ is)
 
   counted_hart : (g : ℕ) (head : Request) → Frees state by start g head → IsCounted state by start g
-  counted_hart g head frees = by_armed (hart_of (as_met state by start) g).armed refl (freed_is_armed head g (hart_of (as_met state by start) g) frees.freed)
+  counted_hart g head frees =
+      by_armed (hart_of (as_met state by start) g).armed refl
+      (freed_is_armed head g (hart_of (as_met state by start) g) frees.freed)
     where
-      by_armed : (found : Option Armed) → (hart_of (as_met state by start) g).armed ≡ found → is_some found ≡ true → IsCounted state by start g
+      by_armed : (found : Option Armed) → (hart_of (as_met state by start) g).armed ≡ found → is_some found ≡ true →
+          IsCounted state by start g
       by_armed None is some = absurd (cc)
       by_armed (Some armed) is some =
           let mid = as_met state by start in
@@ -249,13 +265,16 @@ module _ (state : ModelState) (by : ℕ) (start : Start) (few : length state.har
             was = was;
             some = bounds.some;
             count_is = ap (λ found. count_in (freed_if mid found) g) frees.head_is
-                ∙ count_in-freed_of (λ h. freed_count head h (hart_of mid h)) g (exists g armed was) (omega (arith, whole, few_there))
+                ∙ count_in-freed_of (λ h. freed_count head h (hart_of mid h)) g (exists g armed was)
+                (omega (arith, whole, few_there))
                 ∙ whole;
           }
 
 -- so exactly the harts that its outcome tells are let go
-module _ {state : ModelState} {by : ℕ} {turn : Turn} (done : IsBusEvent state by turn) (few : length state.harts ≤ 8) (long : ℕ)
-    (short : (h : ℕ) (armed : Armed) → armed_of state h ≡ Some armed → IsShortArmed long armed) (rested : Rested state) (all : AllArmed state) where
+module _ {state : ModelState} {by : ℕ} {turn : Turn} (done : IsBusEvent state by turn)
+    (few : length state.harts ≤ 8) (long : ℕ)
+    (short : (h : ℕ) (armed : Armed) → armed_of state h ≡ Some armed → IsShortArmed long armed) (rested : Rested state)
+    (all : AllArmed state) where
   abbrev freed : Freed
   freed = freed_in state by done.start
 
@@ -288,8 +307,8 @@ module _ {state : ModelState} {by : ℕ} {turn : Turn} (done : IsBusEvent state 
   let_go_hart : (g : ℕ) → 1 ≤ count_in freed g → letting_go.IsLetGo state turn.state g (count_in freed g)
   let_go_hart g some = by_end (kept_or_let_go state by done.start g rested (done.becomes g)) (spared_or_gone done g)
     where
-      by_end : KeptOrLetGo state by done.start g (hart_of turn.state g) → (count_in freed g ≡ 0) ⊎ IsGone state turn.state g →
-          letting_go.IsLetGo state turn.state g (count_in freed g)
+      by_end : KeptOrLetGo state by done.start g (hart_of turn.state g) →
+          (count_in freed g ≡ 0) ⊎ IsGone state turn.state g → letting_go.IsLetGo state turn.state g (count_in freed g)
       by_end (inr gone) either = one_let_go g gone
       by_end (inl kept) (inl none) = absurd (omega (arith, some, none))
       by_end (inl kept) (inr gone) = not_both gone.was (ap is_some (sym kept.armed_is ∙ gone.unarmed))
@@ -301,13 +320,15 @@ module _ {state : ModelState} {by : ℕ} {turn : Turn} (done : IsBusEvent state 
     stays_armed = λ g none. (spared_hart g (sym (told done g) ∙ none)).armed_is;
     stays_last = λ g none. (spared_hart g (sym (told done g) ∙ none)).last_is;
     lets_go = λ g some.
-        subst (letting_go.IsLetGo state turn.state g) (sym (told done g)) (let_go_hart g (subst (λ n. 1 ≤ n) (told done g) some));
+        subst (letting_go.IsLetGo state turn.state g) (sym (told done g))
+        (let_go_hart g (subst (λ n. 1 ≤ n) (told done g) some));
   }
 
 pub bus_events_let_harts_go : BusEventsLetHartsGo
 bus_events_let_harts_go program config events event bytes same range bus =
     let state = after program config events in
-    lets_harts_go (bus_events_are_told_once state event bus) (requests_are_numbered program config events same range).few config.long
+    lets_harts_go (bus_events_are_told_once state event bus)
+    (requests_are_numbered program config events same range).few config.long
     (λ h armed is. armed_sections_are_short program config events range h armed is)
     (rested_in state (always_settled program config events))
     (λ h armed is. armed_sections_run_covered program config events h armed bytes is)

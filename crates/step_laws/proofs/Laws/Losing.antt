@@ -7,7 +7,8 @@ use Rattle.el_base.specs.declared.events.Kind.TheVariants as kinds
 use Rattle.el_base.specs.declared.outcomes.Outcome.{Outcome}
 use Rattle.el_base.specs.declared.outcomes.Outcome.TheVariants as outcomes
 use Rattle.el_model.specs.BusEvent.{IsBusEvent}
-use Rattle.el_model.specs.Deed.{Arms, Begins, Buffers, Commits, Continues, Deed, Elides, LetsGo, Misses, Rests, RollsBack, Runs, Waits, hart_after, outcome_of}
+use Rattle.el_model.specs.Deed.{Arms, Begins, Buffers, Commits, Continues, Deed, Elides, LetsGo, Misses, Rests}
+use Rattle.el_model.specs.Deed.{RollsBack, Runs, Waits, hart_after, outcome_of}
 use Rattle.el_base.specs.Winners.{winner_over}
 use Rattle.el_base.proofs.Laws.Cases.{none_some, not_both}
 use Rattle.el_model.specs.Losses.{HartsAreNumbered, restored, standing_of}
@@ -75,8 +76,8 @@ lost_by state event g winner numbered names bus (Some section) live = record {
 }
 
 -- the event is of the bus
-event_on_bus : (state : ModelState) (event : Event) (g winner : ℕ) → winner_over (next state event).outcome g ≡ Some winner →
-    event.kind ≢ kinds.Step
+event_on_bus : (state : ModelState) (event : Event) (g winner : ℕ) →
+    winner_over (next state event).outcome g ≡ Some winner → event.kind ≢ kinds.Step
 unfolding next
 event_on_bus state event g winner names is =
     let step = step_deed state event.hart.number in
@@ -86,7 +87,8 @@ event_on_bus state event g winner names is =
 pub only_live_sections_lose : OnlyLiveSectionsLose
 only_live_sections_lose program config events event g winner same range names =
     let state = after program config events in
-    lost_by state event g winner (requests_are_numbered program config events same range) names (event_on_bus state event g winner names)
+    lost_by state event g winner (requests_are_numbered program config events same range) names
+    (event_on_bus state event g winner names)
     (section_of state g) refl
 
 -- where a step ends a section it is its hart's own, which commits the section or rolls it back
@@ -101,7 +103,8 @@ deed_ends state h Rests live ended = not_both live ended
 deed_ends state h Waits live ended = not_both live ended
 deed_ends state h (Misses line need) live ended = not_both live ended
 deed_ends state h (Runs touch) live ended =
-    not_both (candidate_keeps (λ section clock seen attempt. is_some section ≡ true) _ _ (candidate_of state h) _ live) ended
+    not_both (candidate_keeps (λ section clock seen attempt. is_some section ≡ true) _ _ (candidate_of state h) _ live)
+    ended
 deed_ends state h (Begins swap) live ended = not_both refl ended
 deed_ends state h (Buffers section touch) live ended = not_both refl ended
 deed_ends state h (Commits section) live ended = (refl, inl refl)
@@ -116,7 +119,8 @@ step_ends : (state : ModelState) (h g : ℕ) → is_live state g ≡ true → is
 step_ends state h g =
     let step = step_deed state h in
     rw step.turn_is
-    (each_with (Ends state h step.deed) state h (hart_after state h step.deed (hart_of state h)) (deed_ends state h step.deed)
+    (each_with (Ends state h step.deed) state h (hart_after state h step.deed (hart_of state h))
+    (deed_ends state h step.deed)
     (λ k live ended. not_both live ended) g)
 
 -- where an event of the bus ends it, a winner is named
@@ -136,12 +140,15 @@ pub what_ends_a_section : WhatEndsASection
 what_ends_a_section program config events event h same range live =
     let state = after program config events in
     let numbered = requests_are_numbered program config events same range in
-    by_event (λ turn. turn.outcome ≡ (next state event).outcome → is_live turn.state h ≡ false → EndsItself state event h ⊎ IsBeaten state event h)
+    by_event (λ turn. turn.outcome ≡ (next state event).outcome → is_live turn.state h ≡ false →
+    EndsItself state event h ⊎ IsBeaten state event h)
     state event
     (λ step outcome ended.
     let own = step_ends state event.hart.number h live ended in
     inl (record { own = own.0; step = step; how = subst HowItEnds outcome own.1 }))
-    (λ turn done outcome ended. inr (beaten (winner_over turn.outcome h) (ap (λ o. winner_over o h) (sym outcome)) (bus_ends done h numbered live ended)))
+    (λ turn done outcome ended.
+    inr (beaten (winner_over turn.outcome h) (ap (λ o. winner_over o h) (sym outcome))
+    (bus_ends done h numbered live ended)))
     refl
   where
     beaten : (winner : Option ℕ) → winner_over (next (after program config events) event).outcome h ≡ winner →

@@ -16,16 +16,18 @@ use Rattle.run_laws.proofs.Laws.Bits.{KeepsBits, run_kept}
 use Rattle.run_laws.proofs.Laws.Kept.{IsKept, other_step_kept, turn_kept}
 use Rattle.run_laws.proofs.Laws.EventsBeside.{AllArmed}
 use Rattle.run_laws.proofs.Laws.LettingGo.{IsGone, bus_beside, spared_or_gone}
-use Rattle.run_laws.proofs.Laws.Reachable.{armed_sections_run_covered, live_sections_run_covered, other_harts_change_nothing_covered}
+use Rattle.run_laws.proofs.Laws.Reachable.{armed_sections_run_covered, live_sections_run_covered}
+use Rattle.run_laws.proofs.Laws.Reachable.{other_harts_change_nothing_covered}
 use Rattle.run_laws.proofs.Laws.Survival.{survives}
 use Rattle.run_laws.specs.PrivateRun.{IsChangeBeside}
 use Rattle.section_laws.proofs.Laws.Numbered.{one_ordered_request_each}
 use Rattle.section_laws.proofs.Laws.OnceEach.{no_set_has_a_line_twice}
 use Rattle.section_laws.proofs.Laws.Waiting.{always_settled, live_unarmed, rested_in}
-use Rattle.step_laws.specs.Survivors.{HasItsBits, IsNoStepOf, KeepsSection, SurvivorsKeepBits, SurvivorsKeepWhatTheyShow}
+use Rattle.step_laws.specs.Survivors.{HasItsBits, IsNoStepOf, KeepsSection, SurvivorsKeepBits}
+use Rattle.step_laws.specs.Survivors.{SurvivorsKeepWhatTheyShow}
 
-kept_section : (state new : ModelState) (g : ℕ) (section : Section) → IsKept state g (hart_of new g) → section_of state g ≡ Some section →
-    is_live new g ≡ true → KeepsSection state new g section
+kept_section : (state new : ModelState) (g : ℕ) (section : Section) → IsKept state g (hart_of new g) →
+    section_of state g ≡ Some section → is_live new g ≡ true → KeepsSection state new g section
 kept_section state new g section (inl ended) was live = not_both live (ap is_some ended)
 kept_section state new g section (inr (same, keeps)) was live = record {
   same = same ∙ was;
@@ -39,7 +41,8 @@ survivors_keep_bits program config events event g section other was =
     let once = no_set_has_a_line_twice program config events in
     let rested = rested_in state (always_settled program config events) in
     by_event (λ turn. is_live turn.state g ≡ true → KeepsSection state turn.state g section) state event
-    (λ step live. kept_section state _ g section (other_step_kept state event.hart.number g (λ same. other step (sym same))) was live)
+    (λ step live. kept_section state _ g section
+    (other_step_kept state event.hart.number g (λ same. other step (sym same))) was live)
     (λ turn done live. kept_section state turn.state g section (turn_kept done rested one once g) was live)
 
 -- what is committed changes beside the hart alone: a hart with a live section is not armed, and so not let go
@@ -65,7 +68,8 @@ change_by program config events event g section bytes other was =
     IsChangeBeside g (cache_of state g) state.committed (next state event).state.committed)
     state event
     (λ step same.
-    other_harts_change_nothing_covered program config events event g bytes (other step) (λ armed. not_both armed (ap is_some unarmed)))
+    other_harts_change_nothing_covered program config events event g bytes (other step)
+    (λ armed. not_both armed (ap is_some unarmed)))
     (λ turn done same.
     subst (IsChangeBeside g (cache_of state g) state.committed) same
     (bus_change done (λ h armed is. armed_sections_run_covered program config events h armed bytes is) g unarmed))
@@ -86,7 +90,8 @@ survivors_keep_what_they_show program config events event g section bytes other 
     record {
       keeps = keeps;
       covered = run;
-      covered_after = run_kept new.committed g (cache_of state g) (cache_of new g) section (each_bit _ _ keeps.bits) covered;
+      covered_after =
+          run_kept new.committed g (cache_of state g) (cache_of new g) section (each_bit _ _ keeps.bits) covered;
       change = change;
       shows = shows;
     }

@@ -1,5 +1,6 @@
 -- the rule of a swap that may be elided
-use Rattle.std.proofs.Common.{◌≡◌, ◌∙◌, ◌≤◌, ℕ, ◌%◌, Bool, true, List, Option, None, Some, is_some, refl, ap, sym, subst}
+use Rattle.std.proofs.Common.{◌≡◌, ◌∙◌, ◌≤◌, ℕ, ◌%◌, Bool, true, List, Option, None, Some, is_some, refl, ap, sym}
+use Rattle.std.proofs.Common.{subst}
 use Rattle.std.specs.Prelude.{not, slice_index, if◌then◌else◌}
 use Rattle.residency.specs.Cache.{is_resident, letter_in, letter_of, way_of}
 use Rattle.cache_sets.specs.Cached.{bytes_of}
@@ -27,7 +28,8 @@ use Rattle.step_rules.specs.Rules.{IsOnLine, beginning_rule, touching_rule}
 use Rattle.step_rules.specs.declared.upcoming.Exchange as exchanges
 
 -- a line that may be read is there
-pub readable_there : (cache : List (List Way)) (line : ℕ) → may_read (letter_of cache line) ≡ true → is_resident cache line ≡ true
+pub readable_there : (cache : List (List Way)) (line : ℕ) → may_read (letter_of cache line) ≡ true →
+    is_resident cache line ≡ true
 readable_there cache line may = by (way_of cache line) may
   where
     by : (way : Option Way) → may_read (letter_in way) ≡ true → is_some way ≡ true
@@ -40,8 +42,10 @@ touching_same state h None = refl
 touching_same state h (Some touch) = refl
 
 -- the rule is the definition's where the cache has the line
-begins_by : (state : ModelState) (h : ℕ) (swap : Swap) → may_read (letter_of (cache_of state h) (line_number swap.word)) ≡ true →
-    beginning_rule (cache_of state h) (is_wanted_to_write state h (line_number swap.word)) swap (next_touch state.committed h)
+begins_by : (state : ModelState) (h : ℕ) (swap : Swap) →
+    may_read (letter_of (cache_of state h) (line_number swap.word)) ≡ true →
+    beginning_rule (cache_of state h) (is_wanted_to_write state h (line_number swap.word)) swap
+    (next_touch state.committed h)
     ≡ swap_rule state h (Some swap)
 begins_by state h swap may =
     ap
@@ -56,10 +60,11 @@ abbrev pub told : exchanges.Exchange → ℕ → Swap
 told exchange old = record { word = exchange.word; old = old; new = exchange.new }
 
 -- the word that a cached line tells is the committed one
-pub word_told : (pool : Pooled) (bus : BusState) (state : ModelState) (h address : ℕ) → Tells pool bus (line_of state.committed) →
-    IsOnLine state.committed → state.committed.base ≤ address → address % 4 ≡ 0 →
-    is_resident (slotted_at bus.copies.caches h).residency (line_number address) ≡ true →
-    loaded (slice_index (bytes_of (lent pool (slotted_at bus.copies.caches h)) (line_number address))) (address % LINE_BYTES) 4
+pub word_told : (pool : Pooled) (bus : BusState) (state : ModelState) (h address : ℕ) →
+    Tells pool bus (line_of state.committed) → IsOnLine state.committed → state.committed.base ≤ address →
+    address % 4 ≡ 0 → is_resident (slotted_at bus.copies.caches h).residency (line_number address) ≡ true →
+    loaded (slice_index (bytes_of (lent pool (slotted_at bus.copies.caches h)) (line_number address)))
+    (address % LINE_BYTES) 4
     ≡ loaded (byte_in state.committed.base state.committed.bytes) address 4
 word_told pool bus state h address tells on_line from aligned resident =
     let line = line_number address in
@@ -70,12 +75,13 @@ word_told pool bus state h address tells on_line from aligned resident =
     (subst (λ cache. is_resident cache.residency line ≡ true) (sym here) resident))
     ∙ committed_word state.committed address on_line from aligned
 
-pub begins_shown : (pool : Pooled) (bus : BusState) (state : ModelState) (h : ℕ) (exchange : exchanges.Exchange) (wanted : Bool) (old : ℕ)
+pub begins_shown : (pool : Pooled) (bus : BusState) (state : ModelState) (h : ℕ) (exchange : exchanges.Exchange)
+    (wanted : Bool) (old : ℕ)
     (touch : Option Touch) → Shows bus state → Tells pool bus (line_of state.committed) → IsOnLine state.committed →
     state.committed.base ≤ exchange.word → exchange.word % 4 ≡ 0 → touch ≡ next_touch state.committed h →
     may_read (letter_of (slotted_at bus.copies.caches h).residency (line_number exchange.word)) ≡ true →
-    old ≡ loaded (slice_index (bytes_of (lent pool (slotted_at bus.copies.caches h)) (line_number exchange.word))) (exchange.word % LINE_BYTES) 4 →
-    wanted ≡ is_wanted_to_write state h (line_number exchange.word) →
+    old ≡ loaded (slice_index (bytes_of (lent pool (slotted_at bus.copies.caches h)) (line_number exchange.word)))
+    (exchange.word % LINE_BYTES) 4 → wanted ≡ is_wanted_to_write state h (line_number exchange.word) →
     beginning_rule (slotted_at bus.copies.caches h).residency wanted (told exchange old) touch
     ≡ swap_rule state h (Some (swap_over (byte_in state.committed.base state.committed.bytes) exchange))
 begins_shown pool bus state h exchange wanted old touch shows tells on_line from aligned touches may read asked =
@@ -83,7 +89,8 @@ begins_shown pool bus state h exchange wanted old touch shows tells on_line from
     ap (λ cache. beginning_rule cache wanted (told exchange old) touch) (shows.caches h)
     ∙ ap (λ word. beginning_rule (cache_of state h) wanted (told exchange word) touch)
     (read ∙ word_told pool bus state h exchange.word tells on_line from aligned there)
-    ∙ ap (λ waits. beginning_rule (cache_of state h) waits (swap_over (byte_in state.committed.base state.committed.bytes) exchange) touch) asked
+    ∙ ap (λ waits. beginning_rule (cache_of state h) waits
+    (swap_over (byte_in state.committed.base state.committed.bytes) exchange) touch) asked
     ∙ ap
     (λ t. beginning_rule (cache_of state h) (is_wanted_to_write state h (line_number exchange.word))
     (swap_over (byte_in state.committed.base state.committed.bytes) exchange) t)

@@ -25,7 +25,8 @@ use Rattle.step_rules.specs.declared.upcoming.Exchange as exchanges
 use Rattle.el_base.proofs.Laws.Cases.{none_some}
 
 -- a hart's next action is in its place
-in_place_at : (word : Option ℕ) (view : HartView) (span : Span) (room : ℕ) → IsInPlace span room (action_at word view span room)
+in_place_at : (word : Option ℕ) (view : HartView) (span : Span) (room : ℕ) →
+    IsInPlace span room (action_at word view span room)
 in_place_at None view span room = tt
 in_place_at (Some word) view span room = by (decoded word)
   where
@@ -39,36 +40,45 @@ swap_from : (span : Span) (room : ℕ) (byte : ℕ → ℕ) (action : Action) (s
 swap_from span room byte (actions.Amo op rd address source) swap place is =
     by (is_swap_op op) (record { word = address; old = loaded byte address 4; new = source }) place.from_base is
   where
-    by : (b : Bool) (found : Swap) → span.base ≤ found.word → (if b then Some found else None) ≡ Some swap → span.base ≤ swap.word
+    by : (b : Bool) (found : Swap) → span.base ≤ found.word → (if b then Some found else None) ≡ Some swap →
+        span.base ≤ swap.word
     by true found from same = subst (λ s. span.base ≤ s.word) (same_Some found swap same) from
     by false found from same = none_some same
 swap_from span room byte _ swap place is = none_some is
 
-next_in_place : (action : Action) (flat : FlatState) (h : ℕ) → IsNext action flat h → IsInPlace (span_of flat) (room_of flat) action
+next_in_place : (action : Action) (flat : FlatState) (h : ℕ) → IsNext action flat h →
+    IsInPlace (span_of flat) (room_of flat) action
 next_in_place action flat h next =
     subst (IsInPlace (span_of flat) (room_of flat)) (sym next)
     (in_place_at (code_word flat.code (view_of flat h).pc) (view_of flat h) (span_of flat) (room_of flat))
 
-pub exchange_from : (action : Action) (flat : FlatState) (h : ℕ) (exchange : exchanges.Exchange) → IsNext action flat h →
-    Some (swap_over (byte_in flat.base flat.bytes) exchange) ≡ next_swap flat h → flat.base ≤ exchange.word
+pub exchange_from : (action : Action) (flat : FlatState) (h : ℕ) (exchange : exchanges.Exchange) →
+    IsNext action flat h → Some (swap_over (byte_in flat.base flat.bytes) exchange) ≡ next_swap flat h →
+    flat.base ≤ exchange.word
 exchange_from action flat h exchange next is =
-    swap_from (span_of flat) (room_of flat) (byte_in flat.base flat.bytes) action (swap_over (byte_in flat.base flat.bytes) exchange)
+    swap_from (span_of flat) (room_of flat) (byte_in flat.base flat.bytes) action
+    (swap_over (byte_in flat.base flat.bytes) exchange)
     (next_in_place action flat h next) (swap_next action flat h next ∙ sym is)
 
 -- the word that an LR reserves does too
-reserved_from : (span : Span) (room : ℕ) (action : Action) (word : ℕ) → IsInPlace span room action → reserved_by action ≡ Some word →
-    span.base ≤ word
-reserved_from span room (actions.LoadReserved rd address) word place is = subst (λ w. span.base ≤ w) (same_Some address word is) place.from_base
+reserved_from : (span : Span) (room : ℕ) (action : Action) (word : ℕ) → IsInPlace span room action →
+    reserved_by action ≡ Some word → span.base ≤ word
+reserved_from span room (actions.LoadReserved rd address) word place is =
+    subst (λ w. span.base ≤ w) (same_Some address word is) place.from_base
 reserved_from span room _ word place is = none_some is
 
-pub reserve_from : (action : Action) (flat : FlatState) (h word : ℕ) → IsNext action flat h → Some word ≡ next_reserved flat h → flat.base ≤ word
+pub reserve_from : (action : Action) (flat : FlatState) (h word : ℕ) → IsNext action flat h →
+    Some word ≡ next_reserved flat h → flat.base ≤ word
 reserve_from action flat h word next is =
-    reserved_from (span_of flat) (room_of flat) action word (next_in_place action flat h next) (reserved_next action flat h next ∙ sym is)
+    reserved_from (span_of flat) (room_of flat) action word (next_in_place action flat h next)
+    (reserved_next action flat h next ∙ sym is)
 
 -- the rule where the hart may elide
-acquiring_same : (state : ModelState) (h : ℕ) → may_elide state.config.mode (hart_of state h) (view_of state.committed h).pc ≡ true →
-    (found : Option Swap) → acquiring_rule state h found ≡ swap_rule state h found
-acquiring_same state h may None = sym (ap (λ b. reserve_rule state h (if b then next_reserved state.committed h else None)) may)
+acquiring_same : (state : ModelState) (h : ℕ) →
+    may_elide state.config.mode (hart_of state h) (view_of state.committed h).pc ≡ true → (found : Option Swap) →
+    acquiring_rule state h found ≡ swap_rule state h found
+acquiring_same state h may None =
+    sym (ap (λ b. reserve_rule state h (if b then next_reserved state.committed h else None)) may)
 acquiring_same state h may (Some swap) = refl
 
 pub elided : (state : ModelState) (h : ℕ) (may : Bool) → MayElide state h may → may ≡ true →

@@ -1,5 +1,6 @@
 -- Outcomes and the bytes that spell them.
-use Rattle.std.proofs.Common.{◌≡◌, ℕ, zero, suc, ◌+◌, ◌/◌, ◌%◌, ◌≤◌, ◌<◌, ◌^◌, true, List, [], ◌∷◌, ◌++◌, length, get_or, drop, None, refl, sym, ap}
+use Rattle.std.proofs.Common.{◌≡◌, ℕ, zero, suc, ◌+◌, ◌/◌, ◌%◌, ◌≤◌, ◌<◌, ◌^◌, true, List, [], ◌∷◌, ◌++◌, length}
+use Rattle.std.proofs.Common.{get_or, drop, None, refl, sym, ap}
 use Rattle.std.proofs.Common.{◌∙◌, append_assoc, arith, IsTrue}
 use Rattle.std.proofs.lemmas.Bool.Decides.{nat_tests}
 use Rattle.std.proofs.lemmas.List.{drop-drop, take-append-drop}
@@ -16,7 +17,8 @@ use Rattle.el_base.specs.declared.outcomes.Cause.{Cause}
 use Rattle.el_base.specs.declared.outcomes.Cause.TheVariants.{Room, Lines, Long, Call, Mixed}
 use Rattle.el_base.specs.declared.outcomes.Need.TheVariants.{Read, Write}
 use Rattle.el_base.specs.declared.outcomes.Outcome.{Outcome}
-use Rattle.el_base.specs.declared.outcomes.Outcome.TheVariants.{Idle, Stalled, Missed, Ran, Began, Buffered, Committed, RolledBack, Ordered, Served}
+use Rattle.el_base.specs.declared.outcomes.Outcome.TheVariants.{Idle, Stalled, Missed, Ran, Began, Buffered, Committed}
+use Rattle.el_base.specs.declared.outcomes.Outcome.TheVariants.{RolledBack, Ordered, Served}
 use Rattle.el_base.specs.declared.outcomes.Outcome.TheVariants.{Blocked, Delivered, Armed, LetGo}
 use Rattle.el_base.specs.declared.outcomes.Why.{Why}
 use Rattle.el_base.specs.declared.outcomes.Why.TheVariants.{Behind, Retained, Locked}
@@ -26,12 +28,15 @@ use Rattle.el_base.proofs.Laws.ListLaws.{four_in_front}
 use Rattle.file_numbers.specs.Numbers.{IsBytes}
 use Rattle.file_numbers.proofs.Laws.Numbers.{bytes_behind, four_bytes}
 use Rattle.trace_file.specs.Faults.{fields_fault}
-use Rattle.trace_file.specs.Fields.{byte_field, fields_of, freed_field, is_blocking, is_cause, is_line, losers_field, number_field, widths}
-use Rattle.trace_file.specs.Outcomes.{IsRecordable, blocking_byte, cause_code, freed_bytes, losers_bytes, most_committed, most_let_go}
+use Rattle.trace_file.specs.Fields.{byte_field, fields_of, freed_field, is_blocking, is_cause, is_line, losers_field}
+use Rattle.trace_file.specs.Fields.{number_field, widths}
+use Rattle.trace_file.specs.Outcomes.{IsRecordable, blocking_byte, cause_code, freed_bytes, losers_bytes}
+use Rattle.trace_file.specs.Outcomes.{most_committed, most_let_go}
 use Rattle.trace_file.specs.Outcomes.{outcome_spelling, why_code}
 use Rattle.trace_file.specs.Reading.{cause_at, freed_in, losers_in, outcome_in, why_at}
 use Rattle.trace_file.proofs.FieldRows.{first_known}
-use Rattle.trace_file.proofs.Nibbles.{counts_small, freed_again, freed_below, freed_spelled, losers_again, losers_below, losers_spelled, nibbles_small}
+use Rattle.trace_file.proofs.Nibbles.{counts_small, freed_again, freed_below, freed_spelled, losers_again, losers_below}
+use Rattle.trace_file.proofs.Nibbles.{losers_spelled, nibbles_small}
 
 -- ---- codes
 
@@ -92,8 +97,8 @@ four_cells : (cells bytes : List ℕ) → 4 ≤ length bytes →
     cells ++ drop 4 bytes ≡ bytes
 four_cells cells bytes long are = ap (λ (l : List ℕ). l ++ drop 4 bytes) are ∙ sym (four_in_front bytes long)
 
-both_parts : (lost freed bytes : List ℕ) → lost ++ drop 4 bytes ≡ bytes → freed ++ drop 4 (drop 4 bytes) ≡ drop 4 bytes →
-    (lost ++ freed) ++ drop 8 bytes ≡ bytes
+both_parts : (lost freed bytes : List ℕ) → lost ++ drop 4 bytes ≡ bytes →
+    freed ++ drop 4 (drop 4 bytes) ≡ drop 4 bytes → (lost ++ freed) ++ drop 8 bytes ≡ bytes
 both_parts lost freed bytes first second =
     append_assoc lost freed (drop 8 bytes)
     ∙ ap (λ (l : List ℕ). lost ++ (freed ++ l)) (sym (drop-drop 4 4 bytes))
@@ -120,7 +125,8 @@ both_spelled harts place bytes few fits none =
     let later = bytes_behind 4 bytes fits in (
       both_parts (losers_bytes (losers_in bytes)) (freed_bytes (freed_in (drop 4 bytes))) bytes
           (four_cells _ bytes e0.0 (losers_spelled bytes fits (nibbles_small harts bytes few e0.1)))
-          (four_cells _ (drop 4 bytes) e1.0 (freed_spelled (drop 4 bytes) later (counts_small harts (drop 4 bytes) e1.1))),
+          (four_cells _ (drop 4 bytes) e1.0
+          (freed_spelled (drop 4 bytes) later (counts_small harts (drop 4 bytes) e1.1))),
       (losers_below harts bytes e0.1, freed_below harts (drop 4 bytes) e1.1),
     )
 
@@ -157,28 +163,35 @@ outcome_spelled harts (suc (suc (suc (suc (suc (suc (suc (suc (suc zero)))))))))
     let e = both_spelled harts place bytes few fits none in (ap (λ (l : List ℕ). 9 ∷ l) e.0, e.1)
 outcome_spelled harts (suc (suc (suc (suc (suc (suc (suc (suc (suc (suc zero)))))))))) place bytes known few fits none =
     let e = both_spelled harts place bytes few fits none in (ap (λ (l : List ℕ). 10 ∷ l) e.0, e.1)
-outcome_spelled harts (suc (suc (suc (suc (suc (suc (suc (suc (suc (suc (suc zero))))))))))) place bytes known few fits none =
+outcome_spelled harts (suc (suc (suc (suc (suc (suc (suc (suc (suc (suc (suc zero))))))))))) place bytes
+    known few fits none =
     let e = first_known place bytes (byte_field (is_blocking harts)) [] none in
     let byte = get_or bytes 0 0 in
     let parts = blocking_parts harts byte e.1 in
     let why = why_again (byte / 16) parts.0 in
     let by = hart_id-number (byte % 16) (omega (arith, parts.1, few)) in
     let again : blocking_byte (why_at (byte / 16)) (hart_id (byte % 16)) ≡ byte = omega (arith, why, by) in
-    let below : (hart_id (byte % 16)).number < harts = omega (arith, by, parts.1) in
-    (ap (λ (l : List ℕ). 11 ∷ l) (one_byte bytes (blocking_byte (why_at (byte / 16)) (hart_id (byte % 16))) e.0 again), below)
-outcome_spelled harts (suc (suc (suc (suc (suc (suc (suc (suc (suc (suc (suc (suc zero)))))))))))) place bytes known few fits none =
+    let below : (hart_id (byte % 16)).number < harts = omega (arith, by, parts.1) in (
+      ap (λ (l : List ℕ). 11 ∷ l) (one_byte bytes (blocking_byte (why_at (byte / 16)) (hart_id (byte % 16))) e.0 again),
+      below,
+    )
+outcome_spelled harts (suc (suc (suc (suc (suc (suc (suc (suc (suc (suc (suc (suc zero)))))))))))) place bytes
+    known few fits none =
     let e = first_known place bytes (losers_field harts) [] none in
     let lost = losers_spelled bytes fits (nibbles_small harts bytes few e.1) in
     (ap (λ (l : List ℕ). 12 ∷ l) (four_cells _ bytes e.0 lost), losers_below harts bytes e.1)
-outcome_spelled harts (suc (suc (suc (suc (suc (suc (suc (suc (suc (suc (suc (suc (suc zero))))))))))))) place bytes known few fits none =
+outcome_spelled harts (suc (suc (suc (suc (suc (suc (suc (suc (suc (suc (suc (suc (suc zero))))))))))))) place bytes
+    known few fits none =
     (refl, tt)
-outcome_spelled harts (suc (suc (suc (suc (suc (suc (suc (suc (suc (suc (suc (suc (suc (suc zero)))))))))))))) place bytes known few fits none =
+outcome_spelled harts (suc (suc (suc (suc (suc (suc (suc (suc (suc (suc (suc (suc (suc (suc zero)))))))))))))) place
+    bytes known few fits none =
     let e = first_known place bytes (byte_field (within 1 most_let_go)) [] none in
     let byte = get_or bytes 0 0 in
     let small = fits 0 in
     let same : byte % 256 ≡ byte = omega (arith, small) in
     (ap (λ (l : List ℕ). 14 ∷ l) (one_byte bytes (byte % 256) e.0 same), at_most byte most_let_go e.1)
-outcome_spelled harts (suc (suc (suc (suc (suc (suc (suc (suc (suc (suc (suc (suc (suc (suc (suc n))))))))))))))) place bytes known few fits none =
+outcome_spelled harts (suc (suc (suc (suc (suc (suc (suc (suc (suc (suc (suc (suc (suc (suc (suc n))))))))))))))) place
+    bytes known few fits none =
     absurd (omega arith)
 
 -- ---- what is spelled is read again
@@ -205,10 +218,12 @@ outcome_back harts Buffered rest known = refl
 outcome_back harts (Committed count) rest known = ap Committed (number_again count rest (omega (arith, known.1)))
 outcome_back harts (RolledBack cause) rest known = ap RolledBack (cause_back cause)
 outcome_back harts (Ordered losers freed) rest known =
-    ap (λ (x : Losers). Ordered x (freed_in (freed_bytes freed ++ rest))) (losers_again losers (freed_bytes freed ++ rest))
+    ap (λ (x : Losers). Ordered x (freed_in (freed_bytes freed ++ rest)))
+    (losers_again losers (freed_bytes freed ++ rest))
     ∙ ap (λ (x : Freed). Ordered losers x) (freed_again freed rest)
 outcome_back harts (Served losers freed) rest known =
-    ap (λ (x : Losers). Served x (freed_in (freed_bytes freed ++ rest))) (losers_again losers (freed_bytes freed ++ rest))
+    ap (λ (x : Losers). Served x (freed_in (freed_bytes freed ++ rest)))
+    (losers_again losers (freed_bytes freed ++ rest))
     ∙ ap (λ (x : Freed). Served losers x) (freed_again freed rest)
 outcome_back harts (Blocked why by) rest known =
     let low = by.small in

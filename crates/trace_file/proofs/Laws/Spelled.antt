@@ -1,5 +1,6 @@
 -- A trace that is spelled has no fault, and is read again.
-use Rattle.std.proofs.Common.{◌≡◌, ℕ, ◌+◌, ◌^◌, ◌≤◌, ◌<◌, Bool, true, false, not, ltb, List, [], ◌∷◌, ◌++◌, length, map, get_or, take, Option, Some}
+use Rattle.std.proofs.Common.{◌≡◌, ℕ, ◌+◌, ◌^◌, ◌≤◌, ◌<◌, Bool, true, false, not, ltb, List, [], ◌∷◌, ◌++◌, length, map}
+use Rattle.std.proofs.Common.{get_or, take, Option, Some}
 use Rattle.std.proofs.Common.{None, IsTrue, refl, sym, ap, ◌∙◌, inl, inr, arith}
 use Rattle.std.specs.Prelude.{All}
 use Rattle.std.specs.List.{position, position_or_len}
@@ -31,8 +32,10 @@ use Rattle.trace_file.specs.Spelling.{head, spelling, event_byte, outcomes, reco
 use Rattle.trace_file.specs.FaultKinds.{fault_of}
 use Rattle.trace_file.specs.Fields.{is_event}
 use Rattle.file_numbers.specs.Numbers.{number_at}
-use Rattle.trace_file.specs.Faults.{field, byte_fault, magic_fault, version_fault, settings_fault, number_fault, head_fault, mode_at, is_mode, is_few}
-use Rattle.trace_file.specs.Faults.{is_version, event_fault, end_fault, events_fault, entries_fault, body_fault, trace_fault, config_at}
+use Rattle.trace_file.specs.Faults.{field, byte_fault, magic_fault, version_fault, settings_fault, number_fault}
+use Rattle.trace_file.specs.Faults.{head_fault, mode_at, is_mode, is_few}
+use Rattle.trace_file.specs.Faults.{is_version, event_fault, end_fault, events_fault, entries_fault, body_fault}
+use Rattle.trace_file.specs.Faults.{trace_fault, config_at}
 use Rattle.trace_file.specs.Reading.{entries_in, event_in, events_at, recorded_at}
 use Rattle.trace_file.proofs.EntryLaws.{entries_again, event_back, event_passes}
 
@@ -43,18 +46,19 @@ field_passes : (file : List ℕ) (end : ℕ) (fault : Option FileFault) → end 
 unfolding field
 field_passes file end fault whole none = rw (le-ltb (length file) end whole) none
 
-holds_passes : (holds : Bool) (kind : FaultKind) (place : ℕ) → holds ≡ true → some_if (not holds) (fault_of kind place) ≡ None
+holds_passes : (holds : Bool) (kind : FaultKind) (place : ℕ) → holds ≡ true →
+    some_if (not holds) (fault_of kind place) ≡ None
 holds_passes true kind place e = refl
 holds_passes false kind place e = absurd cc
 
-byte_passes : (file : List ℕ) (place : ℕ) (test : ℕ → Bool) → place + 1 ≤ length file → test (get_or file place 0) ≡ true →
-    byte_fault file place test ≡ None
+byte_passes : (file : List ℕ) (place : ℕ) (test : ℕ → Bool) → place + 1 ≤ length file →
+    test (get_or file place 0) ≡ true → byte_fault file place test ≡ None
 unfolding byte_fault
 byte_passes file place test whole passed =
     field_passes file (place + 1) _ whole (holds_passes (test (get_or file place 0)) config_kind place passed)
 
-number_passes : (file : List ℕ) (place : ℕ) (test : ℕ → Bool) → place + 4 ≤ length file → test (number_at file place) ≡ true →
-    number_fault file place test ≡ None
+number_passes : (file : List ℕ) (place : ℕ) (test : ℕ → Bool) → place + 4 ≤ length file →
+    test (number_at file place) ≡ true → number_fault file place test ≡ None
 unfolding number_fault
 number_passes file place test whole passed =
     field_passes file (place + 4) _ whole (holds_passes (test (number_at file place)) config_kind place passed)
@@ -64,14 +68,17 @@ number_passes file place test whole passed =
 abbrev headed : ℕ → Config → ℕ → List ℕ → List ℕ
 headed version c count tail = head version c count ++ tail
 
-long_is : (version count : ℕ) (c : Config) (tail : List ℕ) → c.long < 2 ^ 32 → number_at (headed version c count tail) 10 ≡ c.long
+long_is : (version count : ℕ) (c : Config) (tail : List ℕ) → c.long < 2 ^ 32 →
+    number_at (headed version c count tail) 10 ≡ c.long
 long_is version count c tail small =
     little_number-reads_back 4 c.long (little_bytes 4 c.steps ++ (little_bytes 4 count ++ tail)) small
 
-steps_is : (version count : ℕ) (c : Config) (tail : List ℕ) → c.steps < 2 ^ 32 → number_at (headed version c count tail) 14 ≡ c.steps
+steps_is : (version count : ℕ) (c : Config) (tail : List ℕ) → c.steps < 2 ^ 32 →
+    number_at (headed version c count tail) 14 ≡ c.steps
 steps_is version count c tail small = little_number-reads_back 4 c.steps (little_bytes 4 count ++ tail) small
 
-count_is : (version count : ℕ) (c : Config) (tail : List ℕ) → count < 2 ^ 32 → number_at (headed version c count tail) 18 ≡ count
+count_is : (version count : ℕ) (c : Config) (tail : List ℕ) → count < 2 ^ 32 →
+    number_at (headed version c count tail) 18 ≡ count
 count_is version count c tail small = little_number-reads_back 4 count tail small
 
 few_pass : (count steps : ℕ) → count ≤ steps → is_few steps count ≡ true
@@ -82,7 +89,8 @@ mode_passes Plain = refl
 mode_passes Sle = refl
 mode_passes Tlr = refl
 
-settings_pass : (version count : ℕ) (c : Config) (tail : List ℕ) → Ranges c → settings_fault (headed version c count tail) ≡ None
+settings_pass : (version count : ℕ) (c : Config) (tail : List ℕ) → Ranges c →
+    settings_fault (headed version c count tail) ≡ None
 unfolding settings_fault
 settings_pass version count c tail r =
     let file = headed version c count tail in
@@ -96,19 +104,22 @@ settings_pass version count c tail r =
     (both_none (byte_fault file 8 (allows Ways)) _ (byte_passes file 8 (allows Ways) (omega arith) r.ways)
     (both_none (byte_fault file 9 (allows Lines)) _ (byte_passes file 9 (allows Lines) (omega arith) r.lines)
     (both_none (number_fault file 10 (allows Long)) _ (number_passes file 10 (allows Long) (omega arith) long-in)
-    (both_none (number_fault file 14 (allows Steps)) None (number_passes file 14 (allows Steps) (omega arith) steps-in) refl))))))
+    (both_none (number_fault file 14 (allows Steps)) None
+    (number_passes file 14 (allows Steps) (omega arith) steps-in) refl))))))
 
-head_passes : (version count : ℕ) (c : Config) (tail : List ℕ) → is_version version ≡ true → Ranges c → count ≤ c.steps →
-    head_fault (headed version c count tail) ≡ None
+head_passes : (version count : ℕ) (c : Config) (tail : List ℕ) → is_version version ≡ true → Ranges c →
+    count ≤ c.steps → head_fault (headed version c count tail) ≡ None
 unfolding head_fault magic_fault version_fault
 head_passes version count c tail known r few =
     let file = headed version c count tail in
     let most = at_most 1 MAX_STEPS c.steps r.steps in
     let count-in : is_few (number_at file 14) (number_at file 18) ≡ true =
-    rw (steps_is version count c tail (omega arith), count_is version count c tail (omega arith)) (few_pass count c.steps few)
+    rw (steps_is version count c tail (omega arith), count_is version count c tail (omega arith))
+    (few_pass count c.steps few)
     in
     both_none (magic_fault file) _ (field_passes file 4 _ (omega arith) refl)
-    (both_none (version_fault file) _ (field_passes file 5 _ (omega arith) (holds_passes (is_version version) Version 4 known))
+    (both_none (version_fault file) _
+    (field_passes file 5 _ (omega arith) (holds_passes (is_version version) Version 4 known))
     (both_none (settings_fault file) _ (settings_pass version count c tail r)
     (both_none (number_fault file 18 (is_few (number_at file 14))) None
     (number_passes file 18 (is_few (number_at file 14)) (omega arith) count-in) refl)))
@@ -153,7 +164,8 @@ end_passes c es =
 events_back : (es : List Event) → map event_in (map event_byte es) ≡ es
 events_back [] = refl
 events_back (e ∷ es) =
-    ap (λ (x : Event). x ∷ map event_in (map event_byte es)) (event_back e) ∙ ap (λ (l : List Event). e ∷ l) (events_back es)
+    ap (λ (x : Event). x ∷ map event_in (map event_byte es)) (event_back e)
+    ∙ ap (λ (l : List Event). e ∷ l) (events_back es)
 
 -- ---- the body
 
@@ -171,7 +183,8 @@ body_passes c es None r is =
     let count = count_is 1 (length es) c (map event_byte es) (count_small c es r is.few) in
     both_none (event_fault c.harts (number_at file 18) file) _
     (ap (λ (n : ℕ). event_fault c.harts n file) count ∙ events_pass c es is.harts)
-    (both_none (end_fault (number_at file 18) file) None (ap (λ (n : ℕ). end_fault n file) count ∙ end_passes c es) refl)
+    (both_none (end_fault (number_at file 18) file) None
+    (ap (λ (n : ℕ). end_fault n file) count ∙ end_passes c es) refl)
 body_passes c es (Some os) r is =
     let count = count_is 2 (length es) c (recorded_bytes es os) (count_small c es r is.few) in
     let again = entries_again c.harts 22 es os (few_harts c r) is.told.0 is.harts is.told.1 in
@@ -181,7 +194,8 @@ version_known : (os : Option (List Outcome)) → is_version (version_of os) ≡ 
 version_known None = refl
 version_known (Some os) = refl
 
-pub no_fault : (c : Config) (es : List Event) (os : Option (List Outcome)) → IsTrace c es os → trace_fault (spelling c es os) ≡ None
+pub no_fault : (c : Config) (es : List Event) (os : Option (List Outcome)) → IsTrace c es os →
+    trace_fault (spelling c es os) ≡ None
 unfolding trace_fault
 no_fault c es os is =
     let r = ranges c is.in_range in
@@ -213,9 +227,12 @@ config_back version count c tail r =
     let small = at_most 2 65536 c.long r.long in
     let few = at_most 1 MAX_STEPS c.steps r.steps in
     let file = headed version c count tail in
-    ap (λ (x : Mode). config_of c.harts x c.sets c.ways c.lines (number_at file 10) (number_at file 14)) (mode_back c.mode)
-    ∙ ap (λ (x : ℕ). config_of c.harts c.mode c.sets c.ways c.lines x (number_at file 14)) (long_is version count c tail (omega arith))
-    ∙ ap (λ (x : ℕ). config_of c.harts c.mode c.sets c.ways c.lines c.long x) (steps_is version count c tail (omega arith))
+    ap (λ (x : Mode). config_of c.harts x c.sets c.ways c.lines (number_at file 10) (number_at file 14))
+    (mode_back c.mode)
+    ∙ ap (λ (x : ℕ). config_of c.harts c.mode c.sets c.ways c.lines x (number_at file 14))
+    (long_is version count c tail (omega arith))
+    ∙ ap (λ (x : ℕ). config_of c.harts c.mode c.sets c.ways c.lines c.long x)
+    (steps_is version count c tail (omega arith))
 
 -- what is read of a file
 pub record Reads (file : List ℕ) (c : Config) (es : List Event) (os : Option (List Outcome)) : Type 0 where
@@ -223,7 +240,8 @@ pub record Reads (file : List ℕ) (c : Config) (es : List Event) (os : Option (
   pub events : events_at file ≡ es
   pub recorded : recorded_at file ≡ os
 
-spelled_again : (c : Config) (es : List Event) (os : Option (List Outcome)) → IsTrace c es os → Reads (spelling c es os) c es os
+spelled_again : (c : Config) (es : List Event) (os : Option (List Outcome)) → IsTrace c es os →
+    Reads (spelling c es os) c es os
 unfolding events_at recorded_at
 spelled_again c es None is =
     let r = ranges c is.in_range in
@@ -249,8 +267,8 @@ read_again file c es os is file-is =
       recorded = ap recorded_at file-is ∙ again.recorded;
     }
 
-pub one_spelling : (c d : Config) (es fs : List Event) (os ps : Option (List Outcome)) → IsTrace c es os → IsTrace d fs ps →
-    spelling c es os ≡ spelling d fs ps → (c ≡ d) × (es ≡ fs) × (os ≡ ps)
+pub one_spelling : (c d : Config) (es fs : List Event) (os ps : Option (List Outcome)) → IsTrace c es os →
+    IsTrace d fs ps → spelling c es os ≡ spelling d fs ps → (c ≡ d) × (es ≡ fs) × (os ≡ ps)
 one_spelling c d es fs os ps is is' same =
     let first = spelled_again c es os is in
     let second = read_again (spelling c es os) d fs ps is' same in

@@ -1,10 +1,12 @@
 -- The bits of a mask of so many places from one on.
-use Rattle.std.proofs.Common.{◌≡◌, ℕ, ◌+◌, ◌-◌, ◌*◌, ◌/◌, ◌%◌, ◌^◌, ◌<◌, ◌≤◌, ◌==◌, ◌&&◌, nat_le, nat_lt, ap, sym, ◌∙◌, lit<, arith}
+use Rattle.std.proofs.Common.{◌≡◌, ℕ, ◌+◌, ◌-◌, ◌*◌, ◌/◌, ◌%◌, ◌^◌, ◌<◌, ◌≤◌, ◌==◌, ◌&&◌, nat_le, nat_lt, ap, sym, ◌∙◌}
+use Rattle.std.proofs.Common.{lit<, arith}
 use Rattle.std.specs.Int.{bit_at}
 use Rattle.std.proofs.Math.Nat.{one-le-pow}
 use Rattle.std.proofs.Math.Pow.{shl_exact}
 use Rattle.std.proofs.lemmas.Bool.Decides.{nat_tests}
-use Rattle.std.proofs.lemmas.Nat.Bits.{bit_at-zero, bit_at_cat_high, bit_at_cat_low, bit_at_ones, bit_at_ones_above, ones_shr}
+use Rattle.std.proofs.lemmas.Nat.Bits.{bit_at-zero, bit_at_cat_high, bit_at_cat_low, bit_at_ones, bit_at_ones_above}
+use Rattle.std.proofs.lemmas.Nat.Bits.{ones_shr}
 
 -- so many ones from a place on
 abbrev run : ℕ → ℕ → ℕ
@@ -31,20 +33,25 @@ module _ (offset count place : ℕ) where
   run_above beyond = from_offset (omega arith) ∙ bit_at_ones_above count (place - offset) (omega arith)
 
 -- how the mask is made
-mask_is : (offset count : ℕ) → offset + count ≤ 64 → (2 ^ 64 - 1) / 2 ^ (64 - count) * 2 ^ offset % 2 ^ 64 ≡ run offset count
+mask_is : (offset count : ℕ) → offset + count ≤ 64 →
+    (2 ^ 64 - 1) / 2 ^ (64 - count) * 2 ^ offset % 2 ^ 64 ≡ run offset count
 mask_is offset count inside =
     let kept : 64 - (64 - count) ≡ count = omega arith in
-    let low : (2 ^ 64 - 1) / 2 ^ (64 - count) ≡ 2 ^ count - 1 = ones_shr 64 (64 - count) (omega arith) ∙ ap (λ k. 2 ^ k - 1) kept in
+    let low : (2 ^ 64 - 1) / 2 ^ (64 - count) ≡ 2 ^ count - 1 =
+    ones_shr 64 (64 - count) (omega arith) ∙ ap (λ k. 2 ^ k - 1) kept in
     ap (λ n. n * 2 ^ offset % 2 ^ 64) low
     ∙ shl_exact {a = 2 ^ count - 1} count offset 64 (omega (arith, some_power count)) (omega arith)
 
-by_place : (bit offset count place : ℕ) → (offset ≤ place → place < offset + count → bit ≡ 1) → (place < offset → bit ≡ 0)
+by_place : (bit offset count place : ℕ) → (offset ≤ place → place < offset + count → bit ≡ 1) →
+    (place < offset → bit ≡ 0)
     → (offset + count ≤ place → bit ≡ 0) → (bit == 1) ≡ (nat_le offset place && nat_lt place (offset + count))
 by_place bit offset count place inside below above = grind (arith, nat_tests)
 
 pub mask_of_places : (offset count : ℕ) → offset + count ≤ 64 → (place : ℕ)
-    → (bit_at ((2 ^ 64 - 1) / 2 ^ (64 - count) * 2 ^ offset % 2 ^ 64) place == 1) ≡ (nat_le offset place && nat_lt place (offset + count))
+    → (bit_at ((2 ^ 64 - 1) / 2 ^ (64 - count) * 2 ^ offset % 2 ^ 64) place == 1)
+    ≡ (nat_le offset place && nat_lt place (offset + count))
 mask_of_places offset count inside place =
     ap (λ n. bit_at n place == 1) (mask_is offset count inside)
-    ∙ by_place (bit_at (run offset count) place) offset count place (run_inside offset count place) (run_below offset count place)
+    ∙ by_place (bit_at (run offset count) place) offset count place (run_inside offset count place)
+    (run_below offset count place)
     (run_above offset count place)

@@ -21,6 +21,7 @@ returns c =
     let line = c.args.line.number in
     let items = c.set_of-set.result.now.lines.items in
     let it = c.index.result.now in
-    sym (ap (λ lines. option_map_or (λ (l : code.Line). l.slot) (found number_of lines line) no_slot) (sym c.set_of-set.ensures)
+    sym (ap (λ lines. option_map_or (λ (l : code.Line). l.slot) (found number_of lines line) no_slot)
+    (sym c.set_of-set.ensures)
     ∙ ap (λ l. option_map_or (λ (x : code.Line). x.slot) l no_slot)
     (found_read number_of items line c.in-Some.place it (sym c.place_of.ensures ∙ c.in-Some.is) c.index.ensures))

@@ -21,8 +21,10 @@ use Rattle.moesi.specs.Letters.{may_write}
 use Rattle.moesi.specs.declared.letter.Letter.TheVariants.{M}
 
 may_still : (caches : List Slotted) (h line : ℕ) (own : Slotted) → own ≡ slotted_at caches h
-    → may_write (letter_of (slotted_at caches h).residency line) ≡ true → may_write (letter_of own.residency line) ≡ true
-may_still caches h line own is may = subst (λ (cache : Slotted). may_write (letter_of cache.residency line) ≡ true) (sym is) may
+    → may_write (letter_of (slotted_at caches h).residency line) ≡ true →
+    may_write (letter_of own.residency line) ≡ true
+may_still caches h line own is may =
+    subst (λ (cache : Slotted). may_write (letter_of cache.residency line) ≡ true) (sym is) may
 
 touched_there : (pool : Pooled) (own touched : Slotted) (line : ℕ) → may_write (letter_of own.residency line) ≡ true
     → IsTouched (lent pool own) (lent pool touched) line → is_resident touched.residency line ≡ true
@@ -35,7 +37,8 @@ set_letter-requires-clause-resident c =
     let memory = c.args.memory.now in
     let own = c.cache_mut-cache.result.now in
     touched_there memory.pool own c.touch.new.self c.args.line.number
-    (may_still memory.hierarchy.caches.items c.args.hart.number c.args.line.number own c.cache_mut-cache.ensures.value c.requires.may)
+    (may_still memory.hierarchy.caches.items c.args.hart.number c.args.line.number own
+    c.cache_mut-cache.ensures.value c.requires.may)
     (c.touch.ensures.touched memory.pool)
 
 pub bytes_mut-requires-clause-resident : goal.bytes_mut-requires-clause-resident
@@ -61,8 +64,10 @@ invariant_of-memory c =
     let same : modified.owner ≡ before.owner = c.set_letter.ensures.owner ∙ c.touch.ensures.owner in
     record {
       lent =
-          lent_set memory.pool after memory.hierarchy.caches.items c.args.hart.number before modified memory.lent c.requires.hart_exists
-          c.cache_mut-cache.ensures.value (subst (λ owner. LeavesOthers owner memory.pool after) same written.others) same written.kept;
+          lent_set memory.pool after memory.hierarchy.caches.items c.args.hart.number before modified memory.lent
+          c.requires.hart_exists
+          c.cache_mut-cache.ensures.value (subst (λ owner. LeavesOthers owner memory.pool after) same written.others)
+          same written.kept;
     }
 
 pub returns-clause-tells : goal.returns-clause-tells
@@ -87,7 +92,8 @@ returns-clause-tells c bytes tells =
     let letter = c.set_letter.ensures.lettered pool in
     let stores : IsStoredIn (cache_at old.caches h) after line put =
     subst (λ cache. IsStoredIn cache after line put) is
-    (stored_by_calls (lent pool own) (lent pool c.touch.new.self) (lent pool modified) after line put may touch letter written.written) in
+    (stored_by_calls (lent pool own) (lent pool c.touch.new.self) (lent pool modified) after line put may touch letter
+    written.written) in
     let may_there : may_write (letter_of (cache_at old.caches h).residency line) ≡ true =
     subst (λ (cached : Cached). may_write (letter_of cached.residency line) ≡ true) is may in
     let read : c.bytes_mut.result.now ≡ bytes line =
@@ -99,7 +105,8 @@ returns-clause-tells c bytes tells =
     let back =
     caches_set pool now caches h own modified memory.lent c.requires.hart_exists c.cache_mut-cache.ensures.value
     (subst (λ owner. LeavesOthers owner pool now) same written.others) in
-    subst (λ all. TellsOf (record old { caches = all }) (bytes_with bytes line (slice_set (bytes line) c.args.at c.args.byte))) (sym back)
+    subst (λ all. TellsOf (record old { caches = all })
+    (bytes_with bytes line (slice_set (bytes line) c.args.at c.args.byte))) (sym back)
     (subst (λ new. TellsOf (record old { caches = slice_set old.caches h after }) (bytes_with bytes line new))
     (c.write.ensures.written ∙ ap (λ b. slice_set b c.args.at c.args.byte) read)
     (tells_stored old h line after bytes put tells stores))
@@ -110,11 +117,13 @@ returns-clause-long c =
     let line = c.args.line.number in
     let own = c.cache_mut-cache.result.now in
     let may : may_write (letter_of own.residency line) ≡ true =
-    may_still c.args.memory.now.hierarchy.caches.items c.args.hart.number line own c.cache_mut-cache.ensures.value c.requires.may in
+    may_still c.args.memory.now.hierarchy.caches.items c.args.hart.number line own c.cache_mut-cache.ensures.value
+    c.requires.may in
     ap length
     (sym
     (c.bytes_mut.ensures.value
-    ∙ bytes_by_calls (lent pool own) (lent pool c.touch.new.self) (lent pool c.set_letter.new.self) line may (c.touch.ensures.touched pool)
+    ∙ bytes_by_calls (lent pool own) (lent pool c.touch.new.self) (lent pool c.set_letter.new.self) line may
+    (c.touch.ensures.touched pool)
     (c.set_letter.ensures.lettered pool)
     ∙ ap (λ cache. bytes_of (lent pool cache) line) c.cache_mut-cache.ensures.value))
     ∙ c.write.ensures.long

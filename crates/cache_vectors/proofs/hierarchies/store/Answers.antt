@@ -1,4 +1,5 @@
-use Rattle.std.proofs.Common.{◌≡◌, ◌∙◌, ◌<◌, ◌%◌, ℕ, List, None, Option, Some, ap, arith, length, refl, subst, sym, true}
+use Rattle.std.proofs.Common.{◌≡◌, ◌∙◌, ◌<◌, ◌%◌, ℕ, List, None, Option, Some, ap, arith, length, refl, subst, sym}
+use Rattle.std.proofs.Common.{true}
 use Rattle.std.specs.Prelude.{IfSome, IsNone, slice_index, slice_set}
 use Rattle.std.proofs.lemmas.Bool.{eq-eqb}
 use Rattle.std.proofs.lemmas.List.{get_or-set_same}
@@ -44,7 +45,9 @@ returns-clause-there c =
     let told =
     ap (λ cached. bytes_of cached line) is
     ∙ copy_tells old h line coherent.bytes coherent.tells (rw c.line_of.ensures resident) in
-    put_and_found c.byte.result (coherent.bytes line) at c.args.byte (λ none. c.byte.ensures.none_exactly_outside.0 none has)
-    (subst (λ row. IfSome c.byte.result (λ found. found ≡ slice_index row at)) (bytes_there coherent.bytes line here new (sym c.line_of.ensures))
+    put_and_found c.byte.result (coherent.bytes line) at c.args.byte
+    (λ none. c.byte.ensures.none_exactly_outside.0 none has)
+    (subst (λ row. IfSome c.byte.result (λ found. found ≡ slice_index row at))
+    (bytes_there coherent.bytes line here new (sym c.line_of.ensures))
     (c.byte.ensures.exact _ (c.put.ensures.tells coherent.bytes coherent.tells)))
     (omega (arith, c.put.ensures.long, ap length told))

@@ -15,8 +15,12 @@ invariant_of-hart c =
     let hart = c.args.hart.now in
     let exact = c.roll_back.ensures.exact in
     record {
-      lent = both_by_hold hart.pool c.roll_back.new.pool hart.sets hart.section.hold hart.lent c.roll_back.ensures.others c.roll_back.new.self.hold
+      lent =
+          both_by_hold hart.pool c.roll_back.new.pool hart.sets hart.section.hold hart.lent c.roll_back.ensures.others
+          c.roll_back.new.self.hold
           c.roll_back.ensures.lent (ap (λ state. state.hold.owner) exact);
-      marked = none_marked hart.sets.residency _ (ap (λ state. map (holds.lent_entry c.roll_back.new.pool) state.hold.entries) exact);
+      marked =
+          none_marked hart.sets.residency _
+          (ap (λ state. map (holds.lent_entry c.roll_back.new.pool) state.hold.entries) exact);
       limit = ap (λ state. state.hold.limit) exact ∙ hart.limit;
     }

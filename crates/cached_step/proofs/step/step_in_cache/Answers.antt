@@ -22,15 +22,18 @@ returns-in_default c =
     let old : Cached = lent pool cache in
     let execution : Execution = perform c.args.action c.args.view.now (cached_byte old) in
     let by : HasRanBy (permitted old) (footprint c.args.action) execution c.run_over.result =
-    ran_by (permitted old) (footprint c.args.action) execution c.run_over.result c.run_over.ensures.ended c.in_default.not-Needs in
-    let put : MatchOption (store_in execution) (after ≡ pool) (λ store. PutsInPool cache pool after store.address store.len store.value) =
+    ran_by (permitted old) (footprint c.args.action) execution c.run_over.result c.run_over.ensures.ended
+    c.in_default.not-Needs in
+    let put : MatchOption (store_in execution) (after ≡ pool)
+    (λ store. PutsInPool cache pool after store.address store.len store.value) =
     rw by.store at c.run_over.ensures.put in
     record {
       ended = c.run_over.ensures.ended;
       view = c.run_over.ensures.view;
       lacks = none_lacks (lacking (permitted old) (footprint c.args.action)) by.lacked;
       ran = λ none.
-          has_run old (lent after cache) (lent after c.use_line.new.sets) c.args.action c.args.view.now (cached_byte old)
+          has_run old (lent after cache) (lent after c.use_line.new.sets) c.args.action c.args.view.now
+          (cached_byte old)
           (record { aligned = c.requires.aligned; permitted = none })
           (put_lent cache pool after (store_in execution) put)
           (rw c.footprint-access.ensures at (c.use_line.ensures.used after));

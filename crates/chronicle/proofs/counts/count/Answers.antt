@@ -5,12 +5,14 @@ use Rattle.chronicle.proofs.counts.count.Goals as goal
 
 pub count_losses-requires : goal.count_losses-requires
 count_losses-requires c =
-    room_for_losses c.args.tallies.now c.args.entry.event.hart.number _ c.args.entry.outcome (omega (arith, c.args.entry.event.hart.small))
+    room_for_losses c.args.tallies.now c.args.entry.event.hart.number _ c.args.entry.outcome
+    (omega (arith, c.args.entry.event.hart.small))
     c.count_own-steps.ensures.exact c.requires
 
 pub returns-clause-exact : goal.returns-clause-exact
 returns-clause-exact c =
-    own_then_losses c.args.tallies.now c.count_losses.new.tallies c.args.entry _ (omega (arith, c.args.entry.event.hart.small))
+    own_then_losses c.args.tallies.now c.count_losses.new.tallies c.args.entry _
+    (omega (arith, c.args.entry.event.hart.small))
     c.count_own-steps.ensures.exact c.count_losses.ensures
 
 pub returns-clause-small : goal.returns-clause-small

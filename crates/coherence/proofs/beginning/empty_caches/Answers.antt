@@ -9,6 +9,7 @@ loop-hart-preserved c =
     let config = c.args.config.now in
     let hart = c.loop-hart.hart in
     c.in_ok-push.ensures.items
-    ∙ ap (λ cache. c.loop-hart.caches.items ++ cache ∷ []) (c.in_ok-make.ensures ∙ ap (empty_slotted config.ways config.sets) c.into.ensures)
+    ∙ ap (λ cache. c.loop-hart.caches.items ++ cache ∷ [])
+    (c.in_ok-make.ensures ∙ ap (empty_slotted config.ways config.sets) c.into.ensures)
     ∙ ap (λ caches. caches ++ empty_slotted config.ways config.sets hart ∷ []) c.loop-hart.invariant
     ∙ sym (map-range_with_len_more (λ h. empty_slotted config.ways config.sets h) 0 hart hart (zero-add hart))

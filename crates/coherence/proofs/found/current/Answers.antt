@@ -18,7 +18,8 @@ bytes_at-requires-clause-resident c =
 pub returns-in-Some : goal.returns-in-Some
 returns-in-Some c =
     found_in_copy c.args.pool.now c.args.caches.now c.args.line.number c.in-Some.place _ _
-    (owner_at c.args.caches.now c.args.line.number c.in-Some.place (sym c.owner.ensures ∙ c.in-Some.is)).1 c.bytes_at.ensures
+    (owner_at c.args.caches.now c.args.line.number c.in-Some.place (sym c.owner.ensures ∙ c.in-Some.is)).1
+    c.bytes_at.ensures
 
 pub returns-in-None : goal.returns-in-None
 returns-in-None c =

@@ -14,11 +14,15 @@ returns-in-Read-clause-kept c =
     let h = c.args.hart.number in
     let line = c.args.line.number in
     rw c.in-Read.is
-    (kept_letter_same h line (lent_all pool old) (lent_all pool new) (subst (λ n. h < n) (sym (length-lent pool old)) c.requires.hart_exists)
-    (replaced_at (λ before after. IsLettered before after line (letter_of before.residency line)) h old new pool c.keep_letter.ensures))
+    (kept_letter_same h line (lent_all pool old) (lent_all pool new)
+    (subst (λ n. h < n) (sym (length-lent pool old)) c.requires.hart_exists)
+    (replaced_at (λ before after. IsLettered before after line (letter_of before.residency line)) h old new pool
+    c.keep_letter.ensures))
 
 pub returns-in-Read-clause-lent : goal.returns-in-Read-clause-lent
 returns-in-Read-clause-lent c =
-    lent-replaced (λ before after. IsLettered before after c.args.line.number (letter_of before.residency c.args.line.number))
-    c.args.hart.number c.args.caches.now.items c.keep_letter.new.caches.items c.args.pool.now c.requires.hart_exists c.keep_letter.ensures
+    lent-replaced
+    (λ before after. IsLettered before after c.args.line.number (letter_of before.residency c.args.line.number))
+    c.args.hart.number c.args.caches.now.items c.keep_letter.new.caches.items c.args.pool.now c.requires.hart_exists
+    c.keep_letter.ensures
     c.requires.lent

@@ -17,7 +17,8 @@ returns-clause-kept c =
     let line = c.args.line.number in
     modified h line (lent_all c.args.pool.now old) (lent_all now mid) (lent_all now c.set_letter.new.caches.items)
     c.others_give_up.ensures.gave (subst (λ n. h < n) (sym (length-lent c.args.pool.now old)) c.requires.hart_exists)
-    (replaced_at (λ before after. IsLettered before after line M) h mid c.set_letter.new.caches.items now c.set_letter.ensures)
+    (replaced_at (λ before after. IsLettered before after line M) h mid c.set_letter.new.caches.items now
+    c.set_letter.ensures)
 
 pub returns-clause-lent : goal.returns-clause-lent
 returns-clause-lent c =
@@ -27,5 +28,6 @@ returns-clause-lent c =
     let h = c.args.hart.number in
     let line = c.args.line.number in
     lent-replaced (λ before after. IsLettered before after line M) h mid c.set_letter.new.caches.items now
-    (still_there Write h line c.args.pool.now now old mid c.others_give_up.ensures.gave c.requires.hart_exists) c.set_letter.ensures
+    (still_there Write h line c.args.pool.now now old mid c.others_give_up.ensures.gave c.requires.hart_exists)
+    c.set_letter.ensures
     c.others_give_up.ensures.lent

@@ -13,9 +13,11 @@ give_up-requires c =
     let caches = c.loop-number.caches.items in
     let pool = c.loop-number.pool in
     let inside : number < length caches =
-    all_there c.args.need c.args.hart.number c.args.line.number number c.args.pool.now pool c.args.caches.now.items caches so_far
+    all_there c.args.need c.args.hart.number c.args.line.number number c.args.pool.now pool
+    c.args.caches.now.items caches so_far
     c.len-number-end.result (c.len-number-end.ensures ∙ c.args.caches.now.ok.0) c.loop-number-test.true in
-    subst (IsLent pool) (sym (indexed caches number number c.index_mut.result.now c.index_mut.ensures.value refl inside))
+    subst (IsLent pool)
+    (sym (indexed caches number number c.index_mut.result.now c.index_mut.ensures.value refl inside))
     (so_far.owed.each number inside)
 
 pub loop-number-preserved : goal.loop-number-preserved
@@ -35,9 +37,11 @@ loop-number-preserved c =
     elim c.if-number-from.branch [
       | then-number-from w ↦
           rw (w.pool-is, w.caches-is)
-          (gave_one need h line number first pool old caches so_far w.give_up.new.pool w.index_mut.result.now w.give_up.new.cache
+          (gave_one need h line number first pool old caches so_far w.give_up.new.pool w.index_mut.result.now
+          w.give_up.new.cache
           (λ same. w.if-number-from.true (same ∙ sym c.from.ensures)) inside
-          (indexed caches number number w.index_mut.result.now w.index_mut.ensures.value refl inside) w.give_up.ensures.gives
+          (indexed caches number number w.index_mut.result.now w.index_mut.ensures.value refl inside)
+          w.give_up.ensures.gives
           w.give_up.ensures.lent w.give_up.ensures.others w.give_up.ensures.owner)
       | else-number-from w ↦
           rw (w.pool-is, w.caches-is)

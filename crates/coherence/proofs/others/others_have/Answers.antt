@@ -18,10 +18,13 @@ loop-number-preserved-then-is_other_copy c =
     let caches = c.args.caches.now in
     let number = c.loop-number.number in
     let cache = c.index-caches-number.result in
-    let inside : number - 1 < length caches = within number (length caches) c.loop-number-test.true c.loop-number.invariant.0 in (
+    let inside : number - 1 < length caches =
+    within number (length caches) c.loop-number-test.true c.loop-number.invariant.0 in (
       lower number (length caches) c.loop-number.invariant.0,
-      before_there caches number (number - 1) c.args.hart.number c.args.line.number cache c.loop-number.some c.is_other_copy.result
-          (stepped number c.loop-number-test.true) inside (indexed caches (number - 1) (number - 1) cache c.index-caches-number.is refl inside)
+      before_there caches number (number - 1) c.args.hart.number c.args.line.number cache c.loop-number.some
+          c.is_other_copy.result
+          (stepped number c.loop-number-test.true) inside
+          (indexed caches (number - 1) (number - 1) cache c.index-caches-number.is refl inside)
           c.loop-number.invariant.1 c.is_other_copy.ensures c.if-is_other_copy.true,
     )
 
@@ -30,9 +33,12 @@ loop-number-preserved c =
     let caches = c.args.caches.now in
     let number = c.loop-number.number in
     let cache = c.index-caches-number.result in
-    let inside : number - 1 < length caches = within number (length caches) c.loop-number-test.true c.loop-number.invariant.0 in (
+    let inside : number - 1 < length caches =
+    within number (length caches) c.loop-number-test.true c.loop-number.invariant.0 in (
       lower number (length caches) c.loop-number.invariant.0,
-      before_absent caches number (number - 1) c.args.hart.number c.args.line.number cache c.loop-number.some c.is_other_copy.result
-          (stepped number c.loop-number-test.true) inside (indexed caches (number - 1) (number - 1) cache c.index-caches-number.is refl inside)
+      before_absent caches number (number - 1) c.args.hart.number c.args.line.number cache c.loop-number.some
+          c.is_other_copy.result
+          (stepped number c.loop-number-test.true) inside
+          (indexed caches (number - 1) (number - 1) cache c.index-caches-number.is refl inside)
           c.loop-number.invariant.1 c.is_other_copy.ensures c.if-is_other_copy.false,
     )

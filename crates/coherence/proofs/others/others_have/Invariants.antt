@@ -8,7 +8,8 @@ use Rattle.coherence.proofs.others.others_have.Given as goal
 abbrev pub invariant-loop-number : goal.invariant-loop-number
 invariant-loop-number l =
     (l.number ≤ length l.caches)
-    × ((pool : Pooled) → l.some ≡ others_from l.number (drop l.number (lent_all pool l.caches)) l.hart.number l.line.number)
+    × ((pool : Pooled) → l.some ≡ others_from l.number (drop l.number (lent_all pool l.caches))
+    l.hart.number l.line.number)
 
 abbrev pub decreases-loop-number : goal.decreases-loop-number
 decreases-loop-number l = l.number

@@ -10,7 +10,8 @@ loop-name-preserved c =
 
 pub loop-name-2-preserved : goal.loop-name-2-preserved
 loop-name-2-preserved c =
-    app_more option_rule (map positional_rule (names_of c.args.form.positionals.now)) c.args.form.options.now c.loop-name-2.name-index _ _ _ c.option.result
+    app_more option_rule (map positional_rule (names_of c.args.form.positionals.now)) c.args.form.options.now
+    c.loop-name-2.name-index _ _ _ c.option.result
     (omega arith) c.in_ok-command-2.ensures c.option.ensures.local c.option.ensures.rule c.loop-name-2.invariant
 
 pub loop-name-3-preserved : goal.loop-name-3-preserved

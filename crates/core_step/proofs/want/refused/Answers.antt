@@ -5,5 +5,6 @@ use Rattle.core_step.proofs.want.refused.Goals as goal
 
 pub returns-else-ask : goal.returns-else-ask
 returns-else-ask g c =
-    refused_line (g.P.Port.permits c.args.port.now) c.args.address c.line_of-line.result c.args.need c.ranges.address.fits c.line_of-line.ensures
+    refused_line (g.P.Port.permits c.args.port.now) c.args.address c.line_of-line.result c.args.need
+    c.ranges.address.fits c.line_of-line.ensures
     (sym c.ask.ensures ∙ c.if-ask.false)

@@ -17,4 +17,5 @@ returns-clause-made g c =
     (closed_after_all c.args.machine c.args.turns _ start c.close.result _ _ c.openings_tell_beginnings.ensures is
     (ap (λ s. s.harts) c.config-harts.ensures.exact) begun c.drive_all-pass.ensures.seen c.drive_all-pass.ensures.round
     c.drive_all-pass.ensures.ended opening c.close.ensures.entries
-    (subst (λ (m : Story). length m.entries ≤ m.config.steps) c.into_machine-2.ensures.story c.into_machine-2.ensures.within))
+    (subst (λ (m : Story). length m.entries ≤ m.config.steps) c.into_machine-2.ensures.story
+    c.into_machine-2.ensures.within))

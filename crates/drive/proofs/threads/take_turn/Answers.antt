@@ -11,7 +11,9 @@ pub release-requires-2-clause-entries : goal.release-requires-2-clause-entries
 release-requires-2-clause-entries g c =
     let goes = c.make_turn.ensures.goes_on in let old : RoundStory = c.change.result.now in
     let entry : Entry = record { event = goes.0; outcome = (next (state_of old.now) goes.0).outcome } in
-    let found = ap (λ (r : RoundStory). r.now.entries) c.change.ensures.value ∙ sym (ap (λ p. p.seen) c.hold-held.ensures.pass) in
+    let found =
+    ap (λ (r : RoundStory). r.now.entries) c.change.ensures.value
+    ∙ sym (ap (λ p. p.seen) c.hold-held.ensures.pass) in
     inr (entry, ap (λ (r : RoundStory). r.now.entries) goes.2 ∙ ap (λ l. l ++ entry ∷ []) found)
 
 pub returns-clause-made : goal.returns-clause-made

@@ -17,7 +17,8 @@ loop-segment-preserved c k below =
 
 pub returns : goal.returns
 returns c =
-    let all : take c.loop-segment.segment-index c.args.segments.now ≡ c.args.segments.now = take_all _ _ c.loop-segment-test.false in
+    let all : take c.loop-segment.segment-index c.args.segments.now ≡ c.args.segments.now =
+    take_all _ _ c.loop-segment-test.false in
     rw (← c.loop-segment.auto.bytes)
     (all_loaded (loaded_byte c.args.file.now c.args.segments.now) c.args.base c.loop-segment.bytes
     (rw all at c.loop-segment.invariant))

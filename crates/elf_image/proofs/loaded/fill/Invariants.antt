@@ -4,4 +4,5 @@ use Rattle.elf_image.proofs.loaded.fill.Given as goal
 
 abbrev pub invariant-loop-segment : goal.invariant-loop-segment
 invariant-loop-segment l =
-    (k : ℕ) → k < length l.bytes → slice_index l.bytes k ≡ loaded_byte l.file (take l.segment-index l.segments) (l.base + k)
+    (k : ℕ) → k < length l.bytes →
+    slice_index l.bytes k ≡ loaded_byte l.file (take l.segment-index l.segments) (l.base + k)

@@ -5,4 +5,5 @@ use Rattle.elf_image.specs.Loaded.{code_segment}
 use Rattle.elf_image.proofs.loaded.load_code.Given as goal
 
 abbrev pub invariant-loop-segment : goal.invariant-loop-segment
-invariant-loop-segment l = l.code.items ≡ map (code_segment l.base l.bytes) (filter is_executable (take l.segment-index l.segments))
+invariant-loop-segment l =
+    l.code.items ≡ map (code_segment l.base l.bytes) (filter is_executable (take l.segment-index l.segments))

@@ -9,4 +9,5 @@ load_program-requires-clause-loadable c =
 
 pub load_program-requires-clause-valid : goal.load_program-requires-clause-valid
 load_program-requires-clause-valid c =
-    is_program c.args.file.now c.args.harts c.in_ok-parts.ensures.accepted c.requires.harts_in_range.0 c.requires.harts_in_range.1
+    is_program c.args.file.now c.args.harts c.in_ok-parts.ensures.accepted c.requires.harts_in_range.0
+    c.requires.harts_in_range.1

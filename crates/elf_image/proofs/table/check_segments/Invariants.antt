@@ -4,4 +4,5 @@ use Rattle.elf_image.proofs.table.check_segments.Given as goal
 
 -- what is left decides
 abbrev pub invariant-loop-header : goal.invariant-loop-header
-invariant-loop-header l = segments_fault (drop l.header-index l.headers) l.file_len ≡ segments_fault l.headers l.file_len
+invariant-loop-header l =
+    segments_fault (drop l.header-index l.headers) l.file_len ≡ segments_fault l.headers l.file_len

@@ -9,7 +9,8 @@ returns-clause-within_limit c =
     (omega (arith, length-image_file c.args.built.now, c.requires.not_large))
 
 pub returns-clause-accepted : goal.returns-clause-accepted
-returns-clause-accepted c = rw (c.in_ok-write.ensures.written, c.new-file.ensures.items) (faultless c.args.built.now c.requires)
+returns-clause-accepted c =
+    rw (c.in_ok-write.ensures.written, c.new-file.ensures.items) (faultless c.args.built.now c.requires)
 
 pub returns-clause-loaded : goal.returns-clause-loaded
 returns-clause-loaded c harts =

@@ -7,7 +7,8 @@ use Rattle.line_pool.specs.Calls.{IsMade}
 
 pub loop-owner-preserved : goal.loop-owner-preserved
 loop-owner-preserved c =
-    more_quotas c.args.config.now c.loop-owner.owner c.from.result c.quota_for.result c.loop-owner.quotas c.loop-owner.invariant
+    more_quotas c.args.config.now c.loop-owner.owner c.from.result c.quota_for.result c.loop-owner.quotas
+    c.loop-owner.invariant
     c.loop-owner-test.true c.from.ensures c.quota_for.ensures
 
 pub returns : goal.returns

@@ -12,7 +12,8 @@ returns-then-not-is_covered c =
       residency =
           (bit.marked no_pool).residency
           ∙ sym
-          (ap (λ b. if b then c.args.sets.now.residency else marked c.args.sets.now.residency c.args.touch.line.number c.args.touch.need)
+          (ap (λ b. if b then c.args.sets.now.residency else marked c.args.sets.now.residency c.args.touch.line.number
+          c.args.touch.need)
           (sym c.is_covered.ensures ∙ c.if-not-is_covered.true));
       keeps = record {
         owner = bit.owner;

@@ -6,4 +6,5 @@ use Rattle.engine.proofs.losing.restore_all.Given as goal
 
 abbrev pub invariant-loop-number : goal.invariant-loop-number
 invariant-loop-number l =
-    IsRestoredBelow l.number l.mode (beaten_by l.losers) (λ g. count_in l.freed g) l.initial.pool l.pool l.initial.harts.items l.harts.items
+    IsRestoredBelow l.number l.mode (beaten_by l.losers) (λ g. count_in l.freed g) l.initial.pool l.pool
+    l.initial.harts.items l.harts.items

@@ -8,7 +8,8 @@ use Rattle.engine.specs.Parts.{own_at}
 use Rattle.engine.specs.Unreserved.{unreserved_beside, written_by}
 
 pub unreserve_one-requires-clause-hart_exists : goal.unreserve_one-requires-clause-hart_exists
-unreserve_one-requires-clause-hart_exists c = omega (arith, c.from.ensures, c.requires, (c.loop-other.invariant no_pool).count)
+unreserve_one-requires-clause-hart_exists c =
+    omega (arith, c.from.ensures, c.requires, (c.loop-other.invariant no_pool).count)
 
 pub unreserve_one-requires-clause-other_exists : goal.unreserve_one-requires-clause-other_exists
 unreserve_one-requires-clause-other_exists c =
@@ -21,11 +22,14 @@ loop-other-preserved c pool =
     let h = c.args.hart.number in
     let so_far = c.loop-other.invariant pool in
     let inside : other < length now = omega (arith, c.loop-other-test.true, c.len-other-end.ensures, so_far.count) in
-    unreserved_more other h (written_by pool (own_at c.args.harts.now.items h)) c.args.harts.now.items now _ so_far inside
+    unreserved_more other h (written_by pool (own_at c.args.harts.now.items h)) c.args.harts.now.items
+    now _ so_far inside
     (c.unreserve_one.ensures pool
-    ∙ ap (λ i. if other == i then now else slice_set now other (unreserved_beside (written_by pool (own_at now i)) (own_at now other)))
+    ∙ ap (λ i. if other == i then now else slice_set now other
+    (unreserved_beside (written_by pool (own_at now i)) (own_at now other)))
     c.from.ensures
-    ∙ ap (λ own. if other == h then now else slice_set now other (unreserved_beside (written_by pool own) (own_at now other))) so_far.own)
+    ∙ ap (λ own. if other == h then now else slice_set now other
+    (unreserved_beside (written_by pool own) (own_at now other))) so_far.own)
 
 pub returns : goal.returns
 returns c pool =
@@ -33,5 +37,6 @@ returns c pool =
     record {
       count = so_far.count;
       own = so_far.own;
-      others = λ g other less. so_far.below g other (omega (arith, c.loop-other-test.false, c.len-other-end.ensures, less));
+      others =
+          λ g other less. so_far.below g other (omega (arith, c.loop-other-test.false, c.len-other-end.ensures, less));
     }

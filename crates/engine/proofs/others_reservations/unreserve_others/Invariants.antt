@@ -7,4 +7,5 @@ use Rattle.line_pool.specs.Pooled.{Pooled}
 abbrev pub invariant-loop-other : goal.invariant-loop-other
 invariant-loop-other l =
     (pool : Pooled) →
-    AreUnreservedBelow l.other l.hart.number (written_by pool (own_at l.initial.harts.items l.hart.number)) l.initial.harts.items l.harts.items
+    AreUnreservedBelow l.other l.hart.number (written_by pool (own_at l.initial.harts.items l.hart.number))
+    l.initial.harts.items l.harts.items

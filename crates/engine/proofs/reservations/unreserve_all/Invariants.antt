@@ -5,4 +5,5 @@ use Rattle.engine.proofs.reservations.unreserve_all.Given as goal
 
 abbrev pub invariant-loop-hart : goal.invariant-loop-hart
 invariant-loop-hart l =
-    l.harts ≡ map (unreserved_own l.line.number) (take l.hart-index l.initial.harts) ++ drop l.hart-index l.initial.harts
+    l.harts ≡ map (unreserved_own l.line.number) (take l.hart-index l.initial.harts)
+    ++ drop l.hart-index l.initial.harts

@@ -16,13 +16,18 @@ loop-event-preserved c = (
   one_followed c.args.machine.now c.loop-event.machine c.make.new.machine c.args.events.now c.loop-event.event-index
       c.event-item.result c.loop-event.invariant.0 c.loop-event-test.true c.event-item.is c.in_ok-make.ensures.goes_on,
   tries_more c.args.machine.now c.loop-event.machine c.args.events.now c.loop-event.event-index c.event-item.result
-      c.loop-event.watched.tries c.make.new.watched.tries c.loop-event.invariant.0 c.loop-event-test.true c.event-item.is
+      c.loop-event.watched.tries c.make.new.watched.tries c.loop-event.invariant.0
+      c.loop-event-test.true c.event-item.is
       c.loop-event.invariant.1 c.in_ok-make.ensures.tries,
   c.in_ok-make.ensures.live,
-  told_more swaps_in c.args.machine.now c.loop-event.machine c.args.events.now c.loop-event.event-index c.event-item.result
-      c.loop-event.watched.swaps.items c.make.new.watched.swaps.items c.loop-event.invariant.0 c.loop-event-test.true c.event-item.is
+  told_more swaps_in c.args.machine.now c.loop-event.machine c.args.events.now c.loop-event.event-index
+      c.event-item.result
+      c.loop-event.watched.swaps.items c.make.new.watched.swaps.items c.loop-event.invariant.0
+      c.loop-event-test.true c.event-item.is
       c.loop-event.invariant.3 c.in_ok-make.ensures.swaps,
-  told_more facts_in c.args.machine.now c.loop-event.machine c.args.events.now c.loop-event.event-index c.event-item.result
-      c.loop-event.watched.facts.items c.make.new.watched.facts.items c.loop-event.invariant.0 c.loop-event-test.true c.event-item.is
+  told_more facts_in c.args.machine.now c.loop-event.machine c.args.events.now c.loop-event.event-index
+      c.event-item.result
+      c.loop-event.watched.facts.items c.make.new.watched.facts.items c.loop-event.invariant.0
+      c.loop-event-test.true c.event-item.is
       c.loop-event.invariant.4 c.in_ok-make.ensures.facts,
 )

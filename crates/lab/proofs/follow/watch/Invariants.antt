@@ -8,7 +8,10 @@ use Rattle.machine.specs.Story.{continued, state_of}
 abbrev pub invariant-loop-event : goal.invariant-loop-event
 invariant-loop-event l =
     (l.machine ≡ continued l.initial.machine (take l.event-index l.events))
-    × (l.watched.tries ≡ tries_from (state_of l.initial.machine) (length l.initial.machine.entries) (take l.event-index l.events))
+    × (l.watched.tries ≡ tries_from (state_of l.initial.machine) (length l.initial.machine.entries)
+    (take l.event-index l.events))
     × AreLive (state_of l.machine) l.watched.tries
-    × (l.watched.swaps.items ≡ swaps_from (state_of l.initial.machine) (length l.initial.machine.entries) (take l.event-index l.events))
-    × (l.watched.facts.items ≡ facts_from (state_of l.initial.machine) (length l.initial.machine.entries) (take l.event-index l.events))
+    × (l.watched.swaps.items ≡ swaps_from (state_of l.initial.machine) (length l.initial.machine.entries)
+    (take l.event-index l.events))
+    × (l.watched.facts.items ≡ facts_from (state_of l.initial.machine) (length l.initial.machine.entries)
+    (take l.event-index l.events))

@@ -5,4 +5,5 @@ use Rattle.lab.specs.LineRows.{counts_on}
 
 abbrev pub invariant-loop-fact : goal.invariant-loop-fact
 invariant-loop-fact l =
-    (number : ℕ) → unwrap_or (get nat_eq l.times number) 0 ≡ count_by (counts_on l.what number) (take l.fact-index l.facts)
+    (number : ℕ) → unwrap_or (get nat_eq l.times number) 0 ≡ count_by (counts_on l.what number)
+    (take l.fact-index l.facts)

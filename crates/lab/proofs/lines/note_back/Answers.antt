@@ -11,6 +11,8 @@ returns-in_ok-push-in-Served c =
     let line = c.in-Some.line in
     let old = c.args.facts.now.items in
     c.in_ok-push-in-Served.ensures.items
-    ∙ ap (λ l. old ++ record { place = c.args.place; line = Some l; what = WroteBack c.args.hart } ∷ []) (sym (line_addr-of_line line))
+    ∙ ap (λ l. old ++ record { place = c.args.place; line = Some l; what = WroteBack c.args.hart } ∷ [])
+    (sym (line_addr-of_line line))
     ∙ ap (λ b. old ++ back_facts c.args.place c.args.hart (option_map (λ l. l.number) b)) (sym c.in-Some.is)
-    ∙ ap (λ o. old ++ back_facts c.args.place c.args.hart (if_served o (option_map (λ l. l.number) c.args.back))) (sym c.in-Served.is)
+    ∙ ap (λ o. old ++ back_facts c.args.place c.args.hart (if_served o (option_map (λ l. l.number) c.args.back)))
+    (sym c.in-Served.is)

@@ -12,12 +12,15 @@ loop-number-preserved c =
     elim c.match-winner_of.branch [
       | in-Some+in_ok-push w ↦
           ap (λ v. v.items) w.facts-is
-          ∙ loss_told c.args.place (state_of c.args.machine.now) (beaten_by c.args.losers) _ w.in-Some.winner w.waited_for-line.result
-          c.args.facts.now.items c.loop-number.facts.items w.push.new.self.items c.loop-number.invariant w.in-Some.ensures
+          ∙ loss_told c.args.place (state_of c.args.machine.now) (beaten_by c.args.losers) _ w.in-Some.winner
+          w.waited_for-line.result
+          c.args.facts.now.items c.loop-number.facts.items w.push.new.self.items c.loop-number.invariant
+          w.in-Some.ensures
           w.waited_for-line.ensures w.in_ok-push.ensures.items
       | in_default w ↦
           ap (λ v. v.items) w.facts-is
-          ∙ none_told c.args.place (state_of c.args.machine.now) (beaten_by c.args.losers) c.loop-number.number c.args.facts.now.items
+          ∙ none_told c.args.place (state_of c.args.machine.now) (beaten_by c.args.losers) c.loop-number.number
+          c.args.facts.now.items
           c.loop-number.facts.items c.loop-number.invariant
           (unbeaten c.winner_of.result _ c.winner_of.ensures w.in_default.not-Some)
     ]

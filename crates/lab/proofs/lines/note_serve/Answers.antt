@@ -17,9 +17,11 @@ returns-in_ok-note_owner c =
     let before = option_map (λ hart. hart.number) asked.owner in
     let what = Served c.args.hart asked.request.need in
     c.in_ok-note_owner.ensures
-    ∙ ap (λ l. l ++ owner_facts c.args.place line.number before (option_map (λ hart. hart.number) c.owner_of.result)) c.in_ok-push.ensures.items
+    ∙ ap (λ l. l ++ owner_facts c.args.place line.number before (option_map (λ hart. hart.number) c.owner_of.result))
+    c.in_ok-push.ensures.items
     ∙ append_assoc old (record { place = c.args.place; line = Some line; what = what } ∷ []) _
-    ∙ ap (λ o. old ++ record { place = c.args.place; line = Some line; what = what } ∷ owner_facts c.args.place line.number before o) c.owner_of.ensures
+    ∙ ap (λ o. old ++ record { place = c.args.place; line = Some line; what = what } ∷ owner_facts c.args.place
+    line.number before o) c.owner_of.ensures
     ∙ ap (λ l. old ++ record { place = c.args.place; line = Some l; what = what } ∷
     owner_facts c.args.place line.number before (owner_in state line.number))
     (sym (line_addr-of_line line))

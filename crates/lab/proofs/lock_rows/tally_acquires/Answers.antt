@@ -20,11 +20,16 @@ sum-row-requires c =
 
 pub loop-begun-preserved : goal.loop-begun-preserved
 loop-begun-preserved c = record {
-  so_far = λ other. row_put c.loop-begun.rows c.insert.new.self c.args.tries.now c.loop-begun.begun-index c.begun-item.result other c.sum-row.result
+  so_far =
+      λ other. row_put c.loop-begun.rows c.insert.new.self c.args.tries.now c.loop-begun.begun-index c.begun-item.result
+      other c.sum-row.result
       c.loop-begun-test.true c.begun-item.is
-      (c.sum-row.ensures ∙ ap (λ r. plus r c.of_acquire.result) c.row_of.ensures ∙ ap (plus _) c.of_acquire.ensures.exact)
+      (c.sum-row.ensures ∙ ap (λ r. plus r c.of_acquire.result) c.row_of.ensures
+      ∙ ap (plus _) c.of_acquire.ensures.exact)
       c.loop-begun.invariant.so_far (c.in_ok-insert.ensures.updates.0 (other.pc, other.word));
-  small = λ other. row_small c.loop-begun.rows c.insert.new.self c.loop-begun.begun-index c.begun-item.result.acquire other c.row_of.result c.of_acquire.result
+  small =
+      λ other. row_small c.loop-begun.rows c.insert.new.self c.loop-begun.begun-index c.begun-item.result.acquire other
+      c.row_of.result c.of_acquire.result
       c.sum-row.result c.row_of.ensures c.sum-row.ensures c.loop-begun.invariant.small c.of_acquire.ensures.small
       (c.in_ok-insert.ensures.updates.0 (other.pc, other.word));
 }

@@ -17,11 +17,15 @@ loop-begun-preserved c =
     let try = c.begun-item.result in
     let gives = put_there try c.on.result in
     let told : gives ≡ is_release swaps try =
-    release_is swaps c.go_on.new.self try c.on.result c.in_ok-go_on.ensures.last c.in_ok-go_on.ensures.all c.on.ensures in
+    release_is swaps c.go_on.new.self try c.on.result c.in_ok-go_on.ensures.last
+    c.in_ok-go_on.ensures.all c.on.ensures in
     record {
-      takes = takes_more swaps c.args.tries.now c.loop-begun.begun-index try gives c.loop-begun.parted.takes.items c.part.new.parted.takes.items
+      takes =
+          takes_more swaps c.args.tries.now c.loop-begun.begun-index try gives c.loop-begun.parted.takes.items
+          c.part.new.parted.takes.items
           c.loop-begun-test.true c.begun-item.is told c.loop-begun.invariant.takes c.in_ok-part.ensures.takes;
-      releases = releases_more swaps c.args.tries.now c.loop-begun.begun-index try gives c.loop-begun.parted.releases.items
+      releases =
+          releases_more swaps c.args.tries.now c.loop-begun.begun-index try gives c.loop-begun.parted.releases.items
           c.part.new.parted.releases.items c.loop-begun-test.true c.begun-item.is told c.loop-begun.invariant.releases
           c.in_ok-part.ensures.releases;
       last = c.in_ok-go_on.ensures.last;
@@ -29,5 +33,6 @@ loop-begun-preserved c =
 
 pub returns-clause-each_once : goal.returns-clause-each_once
 returns-clause-each_once c =
-    all_parted c.args.swaps.now c.args.tries.now c.loop-begun.parted.takes.items c.loop-begun.parted.releases.items c.loop-begun.begun-index
+    all_parted c.args.swaps.now c.args.tries.now c.loop-begun.parted.takes.items c.loop-begun.parted.releases.items
+    c.loop-begun.begun-index
     (omega (arith, c.loop-begun-test.false)) c.loop-begun.invariant.takes c.loop-begun.invariant.releases

@@ -15,13 +15,22 @@ loop-number-preserved c =
     elim c.if-from-harts.branch [
       | then-from-harts w ↦
           subst (λ letters. AreBelow wanted (length state.harts) letters (c.loop-number.number + 1)) (sym w.letters-is)
-          (letter_put wanted (length state.harts) c.loop-number.letters c.loop-number.number w.from-then-from-harts.result w.letter.result
+          (letter_put wanted (length state.harts) c.loop-number.letters c.loop-number.number
+          w.from-then-from-harts.result w.letter.result
           c.loop-number-test.true w.from-then-from-harts.ensures
-          (w.letter.ensures.exact ∙ ap (λ r. letter_of r c.args.line.number) (w.sets.ensures.shown state c.bus-bus.ensures.shows))
+          (w.letter.ensures.exact ∙ ap (λ r. letter_of r c.args.line.number)
+          (w.sets.ensures.shown state c.bus-bus.ensures.shows))
           c.loop-number.invariant)
       | else-from-harts w ↦
           let past : length state.harts ≤ c.loop-number.number =
-          (omega (arith, w.if-from-harts.false, c.from.ensures, c.harts-harts.ensures, c.bus-bus.ensures.shows.agent_each)) in
+          (omega (
+            arith,
+            w.if-from-harts.false,
+            c.from.ensures,
+            c.harts-harts.ensures,
+            c.bus-bus.ensures.shows.agent_each,
+          )) in
           subst (λ letters. AreBelow wanted (length state.harts) letters (c.loop-number.number + 1)) (sym w.letters-is)
-          (letter_passed wanted (length state.harts) c.loop-number.letters c.loop-number.number past c.loop-number.invariant)
+          (letter_passed wanted (length state.harts) c.loop-number.letters c.loop-number.number past
+          c.loop-number.invariant)
     ]

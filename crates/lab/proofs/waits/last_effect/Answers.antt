@@ -9,7 +9,8 @@ pub loop-place-preserved : goal.loop-place-preserved
 loop-place-preserved c =
     let entries = c.args.machine.now.entries in
     let place = c.loop-place.place in
-    let below : place < length entries = omega (arith, c.loop-place-test.true, c.loop-place.auto.place-end, c.length-place-end.ensures) in
+    let below : place < length entries =
+    omega (arith, c.loop-place-test.true, c.loop-place.auto.place-end, c.length-place-end.ensures) in
     let more = last_more c.args.hart.number entries place c.entry.result c.loop-place.last below
     (sym (get_or_from_slice_get entries place c.entry.result c.entry.result c.entry.ensures)) c.loop-place.invariant in
     elim c.if-acts.branch [

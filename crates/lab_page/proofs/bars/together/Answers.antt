@@ -2,7 +2,8 @@
 use Rattle.std.proofs.Common.{arith}
 use Rattle.lab_page.proofs.Barring.{count_fits, piece_passed, piece_put}
 use Rattle.lab_page.proofs.bars.together.Goals as goal
-use Rattle.lab_page.proofs.bars.together.Goals.{then-piece-hart+then-column-len, else-piece-hart, else-piece-hart-via-then-piece-hart+else-column-len}
+use Rattle.lab_page.proofs.bars.together.Goals.{then-piece-hart+then-column-len, else-piece-hart}
+use Rattle.lab_page.proofs.bars.together.Goals.{else-piece-hart-via-then-piece-hart+else-column-len}
 use Rattle.lab_page.proofs.bars.together.Goals.{else-piece-hart-via-else-piece-hart}
 
 pub put-requires-clause-fits : goal.put-requires-clause-fits

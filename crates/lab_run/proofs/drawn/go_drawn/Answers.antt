@@ -9,5 +9,6 @@ step-requires-clause-step_left c =
 
 pub returns-then-over : goal.returns-then-over
 returns-then-over c =
-    all_stopped c.args.seed c.args.machine.now c.loop-place.machine c.loop-place.place c.args.steps c.loop-place.invariant
+    all_stopped c.args.seed c.args.machine.now c.loop-place.machine c.loop-place.place c.args.steps
+    c.loop-place.invariant
     c.requires.steps_are c.loop-place-test.true (sym c.over.ensures ∙ c.if-over.true)

@@ -19,5 +19,6 @@ loop-number-preserved c = record {
   each =
       subst (AreAllBeatenBelow c.args.losses.now) (sym c.in_ok-push.ensures.items)
       (all_pushed c.args.losses.now c.loop-number.lists.items c.in_ok-beaten_by.field-0 c.at-winner.result
-      (c.loop-number.invariant.so_far ∙ sym c.into.ensures ∙ sym c.at-winner.ensures) c.in_ok-beaten_by.ensures c.loop-number.invariant.each);
+      (c.loop-number.invariant.so_far ∙ sym c.into.ensures ∙ sym c.at-winner.ensures) c.in_ok-beaten_by.ensures
+      c.loop-number.invariant.each);
 }

@@ -12,6 +12,8 @@ loop-number-preserved c = record {
       ∙ ap (λ n. n + 1) c.loop-number.invariant.so_far;
   each =
       subst (AreBeatenBelow c.args.losses.now c.args.winner) (sym c.in_ok-push.ensures.items)
-      (beaten_pushed c.args.losses.now c.args.winner c.loop-number.lists.items c.in_ok-line_counts.field-0 c.at-loser.result
-      (c.loop-number.invariant.so_far ∙ sym c.into.ensures ∙ sym c.at-loser.ensures) c.in_ok-line_counts.ensures c.loop-number.invariant.each);
+      (beaten_pushed c.args.losses.now c.args.winner c.loop-number.lists.items c.in_ok-line_counts.field-0
+      c.at-loser.result
+      (c.loop-number.invariant.so_far ∙ sym c.into.ensures ∙ sym c.at-loser.ensures) c.in_ok-line_counts.ensures
+      c.loop-number.invariant.each);
 }

@@ -26,9 +26,15 @@ returns c =
     rows_whole c.loop-acquire.rows.items c.deref-acquire-items.result.now c.loop-acquire.acquire-index
     (omega (arith, c.loop-acquire-test.false)) c.loop-acquire.invariant.acquires in
     record {
-      sections = subst (AreAcquiresOf c.args.tries.now) (sym c.deref-acquire-items.ensures.value ∙ sym whole) c.in_ok-acquires.ensures.sections;
-      plain = subst (AreAmong c.args.swaps.now) (sym c.deref-acquire-items.ensures.value ∙ sym whole) c.in_ok-acquires.ensures.swaps;
-      only = subst (AreOnlyOf c.args.tries.now c.args.swaps.now) (sym c.deref-acquire-items.ensures.value ∙ sym whole) c.in_ok-acquires.ensures.only;
+      sections =
+          subst (AreAcquiresOf c.args.tries.now) (sym c.deref-acquire-items.ensures.value ∙ sym whole)
+          c.in_ok-acquires.ensures.sections;
+      plain =
+          subst (AreAmong c.args.swaps.now) (sym c.deref-acquire-items.ensures.value ∙ sym whole)
+          c.in_ok-acquires.ensures.swaps;
+      only =
+          subst (AreOnlyOf c.args.tries.now c.args.swaps.now) (sym c.deref-acquire-items.ensures.value ∙ sym whole)
+          c.in_ok-acquires.ensures.only;
       order = whole ∙ c.deref-acquire-items.ensures.value ∙ c.in_ok-acquires.ensures.order;
       right = c.loop-acquire.invariant.right;
     }

@@ -7,7 +7,8 @@ use Rattle.rv_alu.specs.Regs.{get}
 
 pub loop-number-preserved : goal.loop-number-preserved
 loop-number-preserved c = (
-  put_more (λ n. register_item n (get c.args.before.now.regs n) (get c.args.after.now.regs n)) c.loop-number.number c.args.list.now.items
+  put_more (λ n. register_item n (get c.args.before.now.regs n) (get c.args.after.now.regs n)) c.loop-number.number
+      c.args.list.now.items
       c.loop-number.list.items c.tell_register.new.list.items c.loop-number.invariant.0 c.tell_register.ensures.items,
   omega (arith, c.loop-number.invariant.1, c.tell_register.ensures.few),
 )

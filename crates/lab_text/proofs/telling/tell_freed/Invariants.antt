@@ -7,5 +7,6 @@ use Rattle.lab_text.specs.Items.{freed_item}
 
 abbrev pub invariant-loop-number : goal.invariant-loop-number
 invariant-loop-number l =
-    (l.list.items ≡ l.initial.list.items ++ flat_map (λ h. freed_item h (count_in l.freed h)) (range_with_len 0 l.number))
+    (l.list.items ≡ l.initial.list.items ++ flat_map (λ h. freed_item h (count_in l.freed h))
+    (range_with_len 0 l.number))
     × (array_vec_len l.list ≤ array_vec_len l.initial.list + l.number)

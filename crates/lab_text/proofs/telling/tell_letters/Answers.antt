@@ -7,7 +7,9 @@ use Rattle.moesi.specs.declared.letter.Letter.TheVariants.{I}
 
 pub loop-number-preserved : goal.loop-number-preserved
 loop-number-preserved c = (
-  put_more (λ h. letter_item h (slice_index_or c.args.before.now h I) (slice_index_or c.args.after.now h I)) c.loop-number.number
-      c.args.list.now.items c.loop-number.list.items c.tell_letter.new.list.items c.loop-number.invariant.0 c.tell_letter.ensures.items,
+  put_more (λ h. letter_item h (slice_index_or c.args.before.now h I) (slice_index_or c.args.after.now h I))
+      c.loop-number.number
+      c.args.list.now.items c.loop-number.list.items c.tell_letter.new.list.items c.loop-number.invariant.0
+      c.tell_letter.ensures.items,
   omega (arith, c.loop-number.invariant.1, c.tell_letter.ensures.few),
 )

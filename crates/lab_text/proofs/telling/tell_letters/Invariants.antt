@@ -9,5 +9,6 @@ use Rattle.moesi.specs.declared.letter.Letter.TheVariants.{I}
 abbrev pub invariant-loop-number : goal.invariant-loop-number
 invariant-loop-number l =
     (l.list.items ≡ l.initial.list.items
-    ++ flat_map (λ h. letter_item h (slice_index_or l.before h I) (slice_index_or l.after h I)) (range_with_len 0 l.number))
+    ++ flat_map (λ h. letter_item h (slice_index_or l.before h I) (slice_index_or l.after h I))
+    (range_with_len 0 l.number))
     × (array_vec_len l.list ≤ array_vec_len l.initial.list + l.number)

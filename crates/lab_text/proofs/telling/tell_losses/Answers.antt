@@ -7,7 +7,8 @@ use Rattle.lab_text.specs.Items.{loss_item}
 
 pub loop-number-preserved : goal.loop-number-preserved
 loop-number-preserved c = (
-  put_more (λ h. loss_item h (beaten_by c.args.losers h)) c.loop-number.number c.args.list.now.items c.loop-number.list.items
+  put_more (λ h. loss_item h (beaten_by c.args.losers h)) c.loop-number.number c.args.list.now.items
+      c.loop-number.list.items
       c.tell_loss.new.list.items c.loop-number.invariant.0 c.tell_loss.ensures.items,
   omega (arith, c.loop-number.invariant.1, c.tell_loss.ensures.few),
 )

@@ -14,6 +14,7 @@ loop-place-preserved c =
           ap (λ history. history.entries) c.push.ensures
           ∙ ap (λ before. before ++ entry ∷ []) c.loop-place.invariant.so_far
           ∙ sym (take_more entries place entry (slice_get_within entries place entry c.entry.ensures)
-          ∙ ap (λ last. take place entries ++ last ∷ []) (get_or_from_slice_get entries place entry entry c.entry.ensures));
+          ∙ ap (λ last. take place entries ++ last ∷ [])
+          (get_or_from_slice_get entries place entry entry c.entry.ensures));
       room = ap (λ history. history.places) c.push.ensures ∙ c.loop-place.invariant.room;
     }

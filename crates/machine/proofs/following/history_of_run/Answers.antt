@@ -13,6 +13,8 @@ returns c =
     let events = c.args.events.now in
     let all = entries_from from events in
     let made : c.history.result.now.entries ≡ all = search rules in
-    subst (λ places. IfOk c.copy_of.result (λ history. history ≡ record { entries = all; places = places })) (length-entries_from from events)
-    (subst (λ (list : List Entry). IfOk c.copy_of.result (λ history. history ≡ record { entries = list; places = length list })) made
+    subst (λ places. IfOk c.copy_of.result (λ history. history ≡ record { entries = all; places = places }))
+    (length-entries_from from events)
+    (subst (λ (list : List Entry). IfOk c.copy_of.result
+    (λ history. history ≡ record { entries = list; places = length list })) made
     c.copy_of.ensures)

@@ -6,5 +6,6 @@ use Rattle.engine.specs.Shows.{bus_state, lent_copies}
 
 pub main_byte-requires : goal.main_byte-requires
 main_byte-requires g c =
-    there_by_byte (lent_copies c.lent-lent.result.pool.now (bus_state c.lent-lent.result.bus.now).copies) _ c.byte.result
+    there_by_byte (lent_copies c.lent-lent.result.pool.now (bus_state c.lent-lent.result.bus.now).copies) _
+    c.byte.result
     c.byte.ensures.none_exactly_outside (ap is_some c.in-Some.is)

@@ -5,5 +5,7 @@ use Rattle.mail.proofs.mail.withdraw.Given as goal
 
 abbrev pub invariant-loop-place : goal.invariant-loop-place
 invariant-loop-place l =
-    (l.messages ≡ buffer (drop l._place l.fn.messages.items ++ remaining l.withdrawn (take l._place l.fn.messages.items)) l.fn.messages.capacity)
+    (l.messages
+    ≡ buffer (drop l._place l.fn.messages.items ++ remaining l.withdrawn (take l._place l.fn.messages.items))
+    l.fn.messages.capacity)
     × (length l.messages.items ≤ l.messages.capacity)

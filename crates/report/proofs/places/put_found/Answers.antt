@@ -11,7 +11,8 @@ loop-hart-preserved g c =
     record {
       same = c.next_at.ensures.place
           ∙ ap (λ (one : Standing). record one { place = c.next_at.new.self.place }) c.loop-hart.invariant.same;
-      within = still_within c.loop-hart.timeline c.next_at.new.self c.args.hart.number c.args.pc c.next_at.ensures.place is;
+      within =
+          still_within c.loop-hart.timeline c.next_at.new.self c.args.hart.number c.args.pc c.next_at.ensures.place is;
       put = one_told c.args.timeline.now c.loop-hart.timeline c.args.hart.number c.args.pc c.loop-hart.invariant.same
           c.next_at.new.self c.into.result c.next_at.ensures.place is (c.into.ensures ∙ c.place.ensures.exact) _ _ _
           c.loop-hart.invariant.put c.in_ok-put_number_line.ensures;
@@ -20,7 +21,8 @@ loop-hart-preserved g c =
 pub returns-in_err-put_number_line : goal.returns-in_err-put_number_line
 returns-in_err-put_number_line g c =
     failed_puts c.from_residual.result _ _ _ c.from_residual.ensures.0
-    (one_failed_to_be_told c.args.timeline.now c.loop-hart.timeline c.args.hart.number c.args.pc c.loop-hart.invariant.same
+    (one_failed_to_be_told c.args.timeline.now c.loop-hart.timeline c.args.hart.number c.args.pc
+    c.loop-hart.invariant.same
     c.next_at.new.self c.into.result c.next_at.ensures.place (c.next_at.ensures.found c.loop-hart-test.true)
     (c.into.ensures ∙ c.place.ensures.exact) _ _ _ c.loop-hart.invariant.put c.in_err-put_number_line.ensures)
 

@@ -11,9 +11,11 @@ use Rattle.report.proofs.Laws.Puts.{same_puts}
 pub returns : goal.returns
 returns g c =
     let standing = c.args.timeline.now in
-    put_then c.put_last_line.result _ _ _ (flat_map (view_line (view_of (state_here standing))) (range_with_len 0 standing.program.harts)) _
+    put_then c.put_last_line.result _ _ _
+    (flat_map (view_line (view_of (state_here standing))) (range_with_len 0 standing.program.harts)) _
     c.in_ok-put_pc_lines.ensures
     (same_puts c.put_last_line.result _ _ _ _
     (ap (λ n. last_line n (length c.output.result.now)) c.serial.ensures
-    ∙ ap (λ (bytes : List ℕ). last_line (length (serial_to standing.entries standing.place)) (length bytes)) c.output.ensures.exact)
+    ∙ ap (λ (bytes : List ℕ). last_line (length (serial_to standing.entries standing.place)) (length bytes))
+    c.output.ensures.exact)
     c.put_last_line.ensures)

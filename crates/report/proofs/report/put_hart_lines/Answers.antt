@@ -10,14 +10,17 @@ pub returns-in_err-put_line_of : goal.returns-in_err-put_line_of
 returns-in_err-put_line_of g c =
     let harts = ap (λ (config : Config). config.harts) c.config-number-end.ensures.exact in
     failed_puts c.from_residual.result _ _ _ c.from_residual.ensures.0
-    (each_failed (line_at c.args.machine.now.entries (committed c.args.machine.now)) _ _ _ c.args.machine.now.config.harts
-    c.loop-number.number (omega (arith, c.loop-number-test.true, harts)) c.loop-number.invariant c.in_err-put_line_of.ensures)
+    (each_failed (line_at c.args.machine.now.entries (committed c.args.machine.now)) _ _ _
+    c.args.machine.now.config.harts
+    c.loop-number.number (omega (arith, c.loop-number-test.true, harts)) c.loop-number.invariant
+    c.in_err-put_line_of.ensures)
 
 pub loop-number-preserved : goal.loop-number-preserved
 loop-number-preserved g c =
     let harts = ap (λ (config : Config). config.harts) c.config-number-end.ensures.exact in
     each_more (line_at c.args.machine.now.entries (committed c.args.machine.now)) _ _ _ c.args.machine.now.config.harts
-    c.loop-number.number (omega (arith, c.loop-number-test.true, harts)) c.loop-number.invariant c.in_ok-put_line_of.ensures
+    c.loop-number.number (omega (arith, c.loop-number-test.true, harts)) c.loop-number.invariant
+    c.in_ok-put_line_of.ensures
 
 pub returns : goal.returns
 returns g c =

@@ -9,7 +9,8 @@ pub returns-in_err-put_first_line : goal.returns-in_err-put_first_line
 returns-in_err-put_first_line g c =
     failed_puts c.from_residual.result _ _ _ c.from_residual.ensures.0
     (report_stopped_at_first _ _ c.args.machine.now _ _ c.config.ensures.exact
-    (c.length.ensures ∙ ap (λ (history : Chronicle). length history.entries) c.history-history.ensures.exact) c.in_err-put_first_line.ensures)
+    (c.length.ensures ∙ ap (λ (history : Chronicle). length history.entries) c.history-history.ensures.exact)
+    c.in_err-put_first_line.ensures)
 
 pub returns-in_err-put_hart_lines : goal.returns-in_err-put_hart_lines
 returns-in_err-put_hart_lines g c =
@@ -22,6 +23,7 @@ pub returns : goal.returns
 returns g c =
     report_put c.put_last_line.result _ _ _ _ c.args.machine.now _ _ _ _ c.config.ensures.exact
     (c.length.ensures ∙ ap (λ (history : Chronicle). length history.entries) c.history-history.ensures.exact)
-    (c.serial_len.ensures ∙ ap (λ (history : Chronicle). length (serial history.entries)) c.history-history.ensures.exact)
+    (c.serial_len.ensures ∙ ap (λ (history : Chronicle). length (serial history.entries))
+    c.history-history.ensures.exact)
     (ap length c.output.ensures.exact)
     c.in_ok-put_first_line.ensures c.in_ok-put_hart_lines.ensures c.put_last_line.ensures

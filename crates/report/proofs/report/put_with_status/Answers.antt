@@ -10,6 +10,7 @@ pub returns-in-Trapped : goal.returns-in-Trapped
 returns-in-Trapped g c =
     same_puts c.put_line-in-Trapped.result _ _ _ _
     (ap (λ more. line (codes "hart") (map bytes_of c.args.words.now ++ more))
-    (ap (λ cause. codes "trap" ∷ decimal cause ∷ codes "at" ∷ eight_digits c.in-Trapped.pc ∷ []) c.into-in-Trapped.ensures
+    (ap (λ cause. codes "trap" ∷ decimal cause ∷ codes "at" ∷ eight_digits c.in-Trapped.pc ∷ [])
+    c.into-in-Trapped.ensures
     ∙ ap status_words (sym c.in-Trapped.is)))
     c.put_line-in-Trapped.ensures

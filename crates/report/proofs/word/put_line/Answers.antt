@@ -29,4 +29,5 @@ returns g c =
     same_puts c.put_bytes.result _ _ _ _ (line_of_words c.args.first.now c.args.words.now c.args.more.now)
     (put_then c.put_bytes.result _ _ _ c.args.first.now _ c.in_ok-put_word.ensures
     (put_then c.put_bytes.result _ _ _ (text c.args.words.now) _ c.in_ok-put_words.ensures
-    (put_then c.put_bytes.result _ _ _ (text c.args.more.now) (10 ∷ []) c.in_ok-put_words-2.ensures c.put_bytes.ensures)))
+    (put_then c.put_bytes.result _ _ _ (text c.args.more.now) (10 ∷ []) c.in_ok-put_words-2.ensures
+    c.put_bytes.ensures)))

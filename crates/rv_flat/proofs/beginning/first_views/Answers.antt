@@ -6,9 +6,14 @@ use Rattle.rv_flat.proofs.beginning.first_views.Goals as goal
 
 pub loop-hart-preserved : goal.loop-hart-preserved
 loop-hart-preserved c =
-    rw (map-range_with_len_more (first_view c.args.image.now) 0 c.loop-hart.hart c.loop-hart.hart (zero-add c.loop-hart.hart))
+    rw (map-range_with_len_more (first_view c.args.image.now) 0 c.loop-hart.hart c.loop-hart.hart
+    (zero-add c.loop-hart.hart))
     (rw (← c.loop-hart.invariant, ← c.first_view.ensures) c.in_ok-push.ensures.items)
 
 pub returns-clause-few : goal.returns-clause-few
 returns-clause-few c =
-    omega (arith, ap length c.loop-hart.invariant, length-map-range_with_len (first_view c.args.image.now) 0 c.loop-hart.hart)
+    omega (
+      arith,
+      ap length c.loop-hart.invariant,
+      length-map-range_with_len (first_view c.args.image.now) 0 c.loop-hart.hart,
+    )

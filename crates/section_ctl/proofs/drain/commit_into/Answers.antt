@@ -10,4 +10,5 @@ returns-clause-cache c =
     commits_drained (holds.lent c.args.pool.now c.args.hold.now) (holds.lent c.drain.new.pool c.drain.new.hold)
     (caches.lent c.args.pool.now c.args.sets.now) (caches.lent c.drain.new.pool c.args.sets.now)
     (caches.lent c.drain.new.pool c.commit_bits.new.self) c.requires.marked c.drain.ensures.drained.drained
-    (ap (map (holds.lent_entry c.drain.new.pool)) c.drain.ensures.nothing) (c.commit_bits.ensures.committed c.drain.new.pool)
+    (ap (map (holds.lent_entry c.drain.new.pool)) c.drain.ensures.nothing)
+    (c.commit_bits.ensures.committed c.drain.new.pool)

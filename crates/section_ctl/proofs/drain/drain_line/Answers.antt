@@ -8,12 +8,14 @@ use Rattle.section_ctl.proofs.drain.drain_line.Goals as goal
 
 pub bytes_mut-requires-clause-lent : goal.bytes_mut-requires-clause-lent
 bytes_mut-requires-clause-lent c =
-    (both_by_hold c.args.pool.now c.drain_into.new.pool c.args.sets.now c.args.hold.now c.requires.lent c.drain_into.ensures.others
+    (both_by_hold c.args.pool.now c.drain_into.new.pool c.args.sets.now c.args.hold.now c.requires.lent
+    c.drain_into.ensures.others
     c.drain_into.new.self c.drain_into.ensures.lent c.drain_into.ensures.owner).cache_lent
 
 pub returns : goal.returns
 returns c =
-    drained_in c.args.pool.now c.drain_into.new.pool _ c.args.sets.now c.args.hold.now c.drain_into.new.self c.args.line.number
+    drained_in c.args.pool.now c.drain_into.new.pool _ c.args.sets.now c.args.hold.now c.drain_into.new.self
+    c.args.line.number
     c.drain_into.new.target c.requires.lent c.requires.resident
     (subst (λ bytes. IsDrained (holds.lent c.args.pool.now c.args.hold.now)
     (holds.lent c.drain_into.new.pool c.drain_into.new.self) c.args.line.number bytes c.drain_into.new.target)

@@ -23,14 +23,18 @@ returns c =
     let nothing : lacking permits (footprint action) ≡ None =
     permitted (footprint action) c.touched_line.result.number c.args.sets.now.residency hold c.touched_line.ensures
     c.requires.bit (c.len.ensures.sound pool) c.requires.marked c.requires.few in
-    let ran : RanInPool c.args.sets.now pool c.run_in_line.new.pool c.args.hold.now c.run_in_line.new.hold (store_in execution) =
-    ran_in_pool c.args.sets.now pool c.run_in_line.new.pool c.args.hold.now c.run_in_line.new.hold c.run_in_line.result permits (footprint action)
+    let ran : RanInPool c.args.sets.now pool c.run_in_line.new.pool c.args.hold.now c.run_in_line.new.hold
+    (store_in execution) =
+    ran_in_pool c.args.sets.now pool c.run_in_line.new.pool c.args.hold.now c.run_in_line.new.hold c.run_in_line.result
+    permits (footprint action)
     execution c.run_in_line.ensures.ended nothing c.run_in_line.ensures.put c.requires.lent in
     record {
       view = c.run_in_line.ensures.view
           ∙ view_ran c.run_in_line.result permits (footprint action) execution c.run_in_line.ensures.ended nothing view
           ∙ ap (λ byte. view_after (perform action view byte) view) shown;
-      hold = subst (λ byte. HoldsAfter (store_in (perform action view byte)) hold (holds.lent c.run_in_line.new.pool c.run_in_line.new.hold)) shown
+      hold =
+          subst (λ byte. HoldsAfter (store_in (perform action view byte)) hold
+          (holds.lent c.run_in_line.new.pool c.run_in_line.new.hold)) shown
           ran.held;
       limit = ran.limit;
       lent = ran.lent;

@@ -18,7 +18,8 @@ use Rattle.section_ctl.proofs.run.touch.Goals as goal
 -- for either need
 covers : (c : goal.After-touch) (pool : Pooled) (access : Access) (need : Need) → c.footprint.result ≡ access →
     touch_of access ≡ Some (record { line = line_number c.in-Read.address; need = need }) →
-    IsCoveredIn (caches.lent pool c.args.sets.now) (caches.lent pool c.touch.new.self) (touch_of (footprint c.args.action))
+    IsCoveredIn (caches.lent pool c.args.sets.now) (caches.lent pool c.touch.new.self)
+    (touch_of (footprint c.args.action))
 covers c pool access need is touches =
     let old = caches.lent pool c.args.sets.now in
     let new = caches.lent pool c.touch.new.self in

@@ -6,4 +6,5 @@ use Rattle.snoop.proofs.delivering.forward_all.Given as goal
 
 abbrev pub invariant-loop-number : goal.invariant-loop-number
 invariant-loop-number l =
-    AreChangedBelow (agent_forwarded (agent_at l.initial.agents.items l.hart.number).upstream l.origin.number) l.number l.initial.agents.items l.agents.items
+    AreChangedBelow (agent_forwarded (agent_at l.initial.agents.items l.hart.number).upstream l.origin.number) l.number
+    l.initial.agents.items l.agents.items

@@ -14,4 +14,6 @@ loop-number-preserved c =
     (rw (fate, c.at.ensures) at c.with_loser-losers.ensures)
 
 pub returns : goal.returns
-returns c = all_losers c.args.fates.now c.loop-number.number c.loop-number.losers (omega arith) c.requires c.loop-number.invariant
+returns c =
+    all_losers c.args.fates.now c.loop-number.number c.loop-number.losers (omega arith) c.requires
+    c.loop-number.invariant

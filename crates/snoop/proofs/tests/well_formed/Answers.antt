@@ -12,7 +12,8 @@ loop-number-preserved c = λ h under.
     let caches = c.args.hierarchy.now.caches.items in
     let number = c.loop-number.number in
     let here : IsWellFormed (slotted_at caches number).ways (slotted_at caches number).residency =
-    subst (λ (cache : Slotted). IsWellFormed cache.ways cache.residency) (c.cache.ensures ∙ ap (slotted_at caches) c.at.ensures)
+    subst (λ (cache : Slotted). IsWellFormed cache.ways cache.residency)
+    (c.cache.ensures ∙ ap (slotted_at caches) c.at.ensures)
     (c.room.ensures.cached no_pool).well_formed in
     elim (cases_eq h number) [
       | inl same ↦ rw same here

@@ -8,11 +8,13 @@ pub returns-in-Some-clause-rule : goal.returns-in-Some-clause-rule
 returns-in-Some-clause-rule c = λ state shows told on_line next touches.
     let h = c.args.hart.number in
     let found = c.in-Some.ensures.next state.committed h next in
-    c.swap_rule.ensures.rule state shows told on_line (exchange_from c.args.action.now state.committed h c.in-Some.exchange next found) touches
+    c.swap_rule.ensures.rule state shows told on_line
+    (exchange_from c.args.action.now state.committed h c.in-Some.exchange next found) touches
     ∙ ap (acquiring_rule state h) found
 
 pub returns-in-Some-reserve_of-clause-old : goal.returns-in-Some-reserve_of-clause-old
 returns-in-Some-reserve_of-clause-old c = λ state shows told on_line next.
     let h = c.args.hart.number in
     c.reserve_rule.ensures.old state shows told on_line
-    (reserve_from c.args.action.now state.committed h c.in-Some-reserve_of.word next (c.in-Some-reserve_of.ensures.next state.committed h next))
+    (reserve_from c.args.action.now state.committed h c.in-Some-reserve_of.word next
+    (c.in-Some-reserve_of.ensures.next state.committed h next))

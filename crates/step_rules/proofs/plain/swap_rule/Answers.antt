@@ -32,12 +32,15 @@ returns-clause-rule c = λ state shows told_lines on_line from touches.
     let read : c.word_in.result ≡ loaded (slice_index (bytes_of copies (line_number word))) (word % LINE_BYTES) 4 =
     c.word_in.ensures
     ∙ ap (λ bytes. loaded (slice_index bytes) (word % LINE_BYTES) 4)
-    (c.bytes.ensures ∙ ap (λ now. bytes_of (lent c.args.pool.now now) c.line_of-line.result.number) c.sets-sets.ensures.exact
+    (c.bytes.ensures ∙ ap (λ now. bytes_of (lent c.args.pool.now now) c.line_of-line.result.number)
+    c.sets-sets.ensures.exact
     ∙ ap (bytes_of copies) c.line_of-line.ensures) in
     c.begin_rule.ensures.rule
     ∙ ap
-    (λ now. beginning_rule now.residency c.is_wanted.result (told c.args.exchange c.word_in.result) (option_map numbered_touch c.args.touch))
+    (λ now. beginning_rule now.residency c.is_wanted.result (told c.args.exchange c.word_in.result)
+    (option_map numbered_touch c.args.touch))
     c.sets-sets.ensures.exact
     ∙ begins_shown c.args.pool.now bus state c.args.hart.number c.args.exchange c.is_wanted.result c.word_in.result
     (option_map numbered_touch c.args.touch) shows told_lines on_line from c.requires.aligned touches may read
-    (c.is_wanted.ensures state shows ∙ ap (λ line. is_wanted_to_write state c.args.hart.number line) c.line_of-line.ensures)
+    (c.is_wanted.ensures state shows ∙ ap (λ line. is_wanted_to_write state c.args.hart.number line)
+    c.line_of-line.ensures)

@@ -18,7 +18,8 @@ entry-requires c =
     differing_at c.args.machine.now c.follow_recorded.new.machine c.args.events.now c.args.recorded.now c.in-Some.place
     c.requires.new c.requires.one_each c.follow_recorded.ensures.followed
     ((c.follow_recorded.ensures.differs c.in-Some.place).0 c.in-Some.is) in
-    subst (λ (history : Chronicle). c.in-Some.place < length history.entries) (sym c.history.ensures.exact) differing.there
+    subst (λ (history : Chronicle). c.in-Some.place < length history.entries)
+    (sym c.history.ensures.exact) differing.there
 
 pub returns-in-Some-clause-exact : goal.returns-in-Some-clause-exact
 returns-in-Some-clause-exact c =

@@ -5,7 +5,8 @@ use Rattle.tool.proofs.looking.find_in_files.Goals as goal
 
 pub returns : goal.returns
 returns c =
-    let told = places_found (find_meaning c.args.command) c.args.image.items c.args.trace.items _ _ _ c.in_ok-image.image
+    let told =
+    places_found (find_meaning c.args.command) c.args.image.items c.args.trace.items _ _ _ c.in_ok-image.image
     c.in_ok-hart.hart.number c.in_ok-make.field-0
     (record {
       trace = c.in_ok-trace.ensures.exact;

@@ -6,5 +6,6 @@ use Rattle.tool.proofs.refusal.put_config.Goals as goal
 
 pub returns : goal.returns
 returns g c =
-    same_puts c.put_line.result _ _ _ _ (ap (λ text. line (codes "config fault") (text ∷ [])) c.config_fault_text.ensures)
+    same_puts c.put_line.result _ _ _ _
+    (ap (λ text. line (codes "config fault") (text ∷ [])) c.config_fault_text.ensures)
     c.put_line.ensures

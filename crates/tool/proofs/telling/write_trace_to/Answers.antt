@@ -4,5 +4,6 @@ use Rattle.tool.proofs.telling.write_trace_to.Goals as goal
 
 pub write_trace-requires-clause-outcomes : goal.write_trace-requires-clause-outcomes
 write_trace-requires-clause-outcomes g c =
-    recordable_history c.args.machine.now c.config.result c.history.result.now c.config.ensures.exact c.config.ensures.in_range
+    recordable_history c.args.machine.now c.config.result c.history.result.now c.config.ensures.exact
+    c.config.ensures.in_range
     c.history.ensures.exact c.history.ensures.recordable

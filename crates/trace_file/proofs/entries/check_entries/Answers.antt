@@ -9,8 +9,11 @@ loop-preserved c =
     let k = c.loop.counter in
     let width = c.in_ok-width.width in
     record {
-      same = ap (λ (l : List ℕ). entries_fault harts (c.args.count - (k + 1)) (c.loop.place + width) l) c.behind-rest.ensures
-          ∙ goes_on harts c.args.count k c.loop.place width c.loop.rest.now _ (omega (arith, c.loop-test.true)) c.loop.invariant.same
+      same =
+          ap (λ (l : List ℕ). entries_fault harts (c.args.count - (k + 1)) (c.loop.place + width) l)
+          c.behind-rest.ensures
+          ∙ goes_on harts c.args.count k c.loop.place width c.loop.rest.now _ (omega (arith, c.loop-test.true))
+          c.loop.invariant.same
           c.in_ok-width.ensures.width.0
           c.in_ok-width.ensures.accepted;
       near = omega (arith, c.loop.invariant.near, c.in_ok-width.ensures.width.1);

@@ -9,7 +9,8 @@ abbrev pub invariant-loop : goal.invariant-loop
 invariant-loop l = record {
   faultless : entries_fault l.harts (l.count - l.counter) l.place l.rest ≡ None;
   near : l.place ≤ 22 + 10 * l.counter;
-  events : l.made.items ++ events (entries_in l.harts (l.count - l.counter) l.rest) ≡ events (entries_in l.harts l.count l.bytes);
+  events : l.made.items ++ events (entries_in l.harts (l.count - l.counter) l.rest)
+      ≡ events (entries_in l.harts l.count l.bytes);
   outcomes : l.recorded.items ++ outcomes (entries_in l.harts (l.count - l.counter) l.rest)
       ≡ outcomes (entries_in l.harts l.count l.bytes);
   many : length l.made.items ≡ l.counter;

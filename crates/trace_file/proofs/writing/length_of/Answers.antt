@@ -11,6 +11,7 @@ pub loop-place-preserved : goal.loop-place-preserved
 loop-place-preserved c =
     record {
       total = longer c.args.from c.loop-place.place c.args.history.now.entries c.entry-entry.result
-          c.loop-place.total _ c.entry-entry.ensures (omega arith) c.loop-place.invariant.total (omega (arith, c.width_of.ensures.exact));
+          c.loop-place.total _ c.entry-entry.ensures (omega arith) c.loop-place.invariant.total
+          (omega (arith, c.width_of.ensures.exact));
       small = omega (arith, c.loop-place.invariant.small, c.width_of.ensures.small);
     }

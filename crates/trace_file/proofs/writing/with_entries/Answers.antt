@@ -26,7 +26,8 @@ pub loop-place-preserved : goal.loop-place-preserved
 loop-place-preserved c =
     record {
       items = grown c.args.bytes.items c.loop-place.bytes.items c.with_entry-bytes.result.items c.args.from
-          c.loop-place.place c.args.history.now.entries c.entry.result c.entry.ensures (omega arith) c.loop-place.invariant.items
+          c.loop-place.place c.args.history.now.entries c.entry.result c.entry.ensures (omega arith)
+          c.loop-place.invariant.items
           c.with_entry-bytes.ensures.items;
       capacity = omega (arith, c.loop-place.invariant.capacity, c.with_entry-bytes.ensures.capacity);
     }

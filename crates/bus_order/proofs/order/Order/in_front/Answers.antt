@@ -17,15 +17,29 @@ insert-requires c = (
 
 pub invariant_of-self : goal.invariant_of-self
 invariant_of-self c =
-    let none : request_of (map numbered c.self.inside.requests.items) c.args.request.hart.number ≡ None = rw c.self.view_is c.requires in (
+    let none : request_of (map numbered c.self.inside.requests.items) c.args.request.hart.number ≡ None =
+    rw c.self.view_is c.requires in (
       one_each_inserted _ _ _ _ c.insert.ensures.items c.self.invariant.0 none,
       rw c.from.ensures
           (kept_in_front _ _ c.self.invariant.1 c.args.request none _
-          (rw (c.insert.ensures.items, c.unwrap_or-place.ensures, c.place_of_line.ensures, c.deref.ensures.0, c.len-behind_all.ensures.value)
+          (rw (
+            c.insert.ensures.items,
+            c.unwrap_or-place.ensures,
+            c.place_of_line.ensures,
+            c.deref.ensures.0,
+            c.len-behind_all.ensures.value,
+          )
           (in_front_found c.self.inside.requests.items c.args.request))),
     )
 
 pub returns : goal.returns
 returns c =
-    rw (← c.self.view_is, c.insert.ensures.items, c.unwrap_or-place.ensures, c.place_of_line.ensures, c.deref.ensures.0, c.len-behind_all.ensures.value)
+    rw (
+      ← c.self.view_is,
+      c.insert.ensures.items,
+      c.unwrap_or-place.ensures,
+      c.place_of_line.ensures,
+      c.deref.ensures.0,
+      c.len-behind_all.ensures.value,
+    )
     (in_front_found c.self.inside.requests.items c.args.request)

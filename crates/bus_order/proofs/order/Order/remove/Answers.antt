@@ -7,7 +7,8 @@ use Rattle.bus_order.proofs.order.Order.remove.Goals as goal
 pub invariant_of-self : goal.invariant_of-self
 invariant_of-self c =
     let found = rw c.deref.ensures.0 at (sym c.place_of_hart.ensures ∙ c.in-Some.is) in (
-      one_each_taken c.self.inside.requests.items c.remove.new.self.items c.in-Some.place c.remove.ensures.items c.self.invariant.0,
+      one_each_taken c.self.inside.requests.items c.remove.new.self.items c.in-Some.place c.remove.ensures.items
+          c.self.invariant.0,
       rw c.from.ensures
           (kept_removed _ _ c.self.invariant.1 c.args.hart.number c.args.hart.small _
           (rw c.remove.ensures.items

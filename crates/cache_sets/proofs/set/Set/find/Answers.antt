@@ -8,11 +8,13 @@ pub returns-in_err-place : goal.returns-in_err-place
 returns-in_err-place c =
     c.from_residual.ensures
     ∙ sym (ap (option_map (λ (l : code.Line). l.way))
-    (position-found number_of c.args.self.now.lines.items c.args.line.number (sym c.place_of.ensures ∙ c.in_err-place.was)))
+    (position-found number_of c.args.self.now.lines.items c.args.line.number
+    (sym c.place_of.ensures ∙ c.in_err-place.was)))
 
 pub returns : goal.returns
 returns c =
     let it = c.index.result.now in
     sym (ap (option_map (λ (l : code.Line). l.way))
-    (found_read number_of c.args.self.now.lines.items c.args.line.number c.in_ok-place.place it (sym c.place_of.ensures ∙ c.in_ok-place.was)
+    (found_read number_of c.args.self.now.lines.items c.args.line.number c.in_ok-place.place it
+    (sym c.place_of.ensures ∙ c.in_ok-place.was)
     c.index.ensures))

@@ -10,5 +10,6 @@ returns-in_err-place c =
 
 pub returns-in_ok-place : goal.returns-in_ok-place
 returns-in_ok-place c =
-    room_made c.args.ways c.args.self.now _ c.in_ok-place.place c.remove.result c.requires (omega arith) c.in_ok-place.ensures.0
+    room_made c.args.ways c.args.self.now _ c.in_ok-place.place c.remove.result c.requires (omega arith)
+    c.in_ok-place.ensures.0
     c.remove.ensures.value (c.in_ok-place.ensures.1 c.remove.result) c.remove.ensures.items c.remove.ensures.capacity

@@ -5,10 +5,12 @@ use Rattle.cache_sets.proofs.set.Set.set_letter.Goals as goal
 
 pub returns-in-Some-get_mut-clause-lines : goal.returns-in-Some-get_mut-clause-lines
 returns-in-Some-get_mut-clause-lines c =
-    changed_read number_of (with_way (lettered_way c.args.letter)) c.args.self.now.lines.items c.args.line.number c.in-Some.place
+    changed_read number_of (with_way (lettered_way c.args.letter)) c.args.self.now.lines.items
+    c.args.line.number c.in-Some.place
     c.in-Some-get_mut.found.now c.requires (sym c.place_of.ensures ∙ c.in-Some.is) c.in-Some-get_mut.ensures.value
 
 pub returns-in_default-clause-lines : goal.returns-in_default-clause-lines
 returns-in_default-clause-lines c =
     sym (changed-absent number_of (with_way (lettered_way c.args.letter)) c.args.self.now.lines.items c.args.line.number
-    (position-found number_of c.args.self.now.lines.items c.args.line.number (sym c.place_of.ensures ∙ c.in_default.is)))
+    (position-found number_of c.args.self.now.lines.items c.args.line.number
+    (sym c.place_of.ensures ∙ c.in_default.is)))

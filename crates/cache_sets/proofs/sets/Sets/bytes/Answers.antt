@@ -8,10 +8,12 @@ slot_in_use-requires-clause-there c =
 
 pub bytes-requires : goal.bytes-requires
 bytes-requires c =
-    used-out c.self.invariant c.self.view_is c.as_slice.ensures.value c.args.line.number c.requires.resident c.requires.lent c.slot_in_use.ensures
+    used-out c.self.invariant c.self.view_is c.as_slice.ensures.value c.args.line.number c.requires.resident
+    c.requires.lent c.slot_in_use.ensures
 
 pub returns : goal.returns
 returns c =
     c.bytes.ensures
-    ∙ used-bytes c.self.invariant c.self.view_is c.as_slice.ensures.value c.args.line.number c.requires.resident c.requires.lent
+    ∙ used-bytes c.self.invariant c.self.view_is c.as_slice.ensures.value c.args.line.number
+    c.requires.resident c.requires.lent
     c.slot_in_use.ensures

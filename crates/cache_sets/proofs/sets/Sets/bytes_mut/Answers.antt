@@ -11,7 +11,8 @@ slot_in_use-slot-requires-clause-there c =
 
 pub bytes_mut-requires : goal.bytes_mut-requires
 bytes_mut-requires c =
-    used-out c.cache.invariant c.cache.view_is c.as_slice.ensures.value c.args.line.number c.requires.resident c.requires.lent
+    used-out c.cache.invariant c.cache.view_is c.as_slice.ensures.value c.args.line.number
+    c.requires.resident c.requires.lent
     c.slot_in_use-slot.ensures
 
 pub returns : goal.returns
@@ -20,15 +21,18 @@ returns c =
     let pool = c.args.pool.now in
     let slot = c.slot_in_use-slot.result.now in
     let used =
-    used-slot c.cache.invariant c.cache.view_is c.as_slice.ensures.value line c.requires.resident c.requires.lent c.slot_in_use-slot.ensures in (
+    used-slot c.cache.invariant c.cache.view_is c.as_slice.ensures.value line c.requires.resident c.requires.lent
+    c.slot_in_use-slot.ensures in (
       (refl, λ w. ap (λ s. with_bytes pool s w) used),
       record {
         lends = tt;
         value = c.bytes_mut.ensures.value
-            ∙ used-bytes c.cache.invariant c.cache.view_is c.as_slice.ensures.value line c.requires.resident c.requires.lent
+            ∙ used-bytes c.cache.invariant c.cache.view_is c.as_slice.ensures.value line
+            c.requires.resident c.requires.lent
             c.slot_in_use-slot.ensures;
         written = λ bytes.
-            used-written c.cache.invariant c.cache.view_is c.as_slice.ensures.value line c.requires.resident c.requires.lent
+            used-written c.cache.invariant c.cache.view_is c.as_slice.ensures.value line
+            c.requires.resident c.requires.lent
             c.slot_in_use-slot.ensures (with_bytes pool (slot_of c.args.cache.now line) bytes) bytes
             (subst (λ s. IsWritten pool (with_bytes pool s bytes) slot bytes) used (c.bytes_mut.ensures.written bytes));
       },

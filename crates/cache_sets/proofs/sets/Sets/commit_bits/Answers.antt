@@ -4,11 +4,17 @@ use Rattle.cache_sets.proofs.Every.{committed-after, lent-committed, stands-comm
 use Rattle.cache_sets.proofs.sets.Sets.commit_bits.Goals as goal
 
 pub invariant_of-self : goal.invariant_of-self
-invariant_of-self c = stands-committed c.self.inside.sets c.commit.new.sets c.self.invariant c.self.view_is c.as_mut_slice.ensures.value c.commit.ensures
+invariant_of-self c =
+    stands-committed c.self.inside.sets c.commit.new.sets c.self.invariant c.self.view_is c.as_mut_slice.ensures.value
+    c.commit.ensures
 
 pub returns : goal.returns
 returns c = record {
-  committed = committed-after c.self.inside.sets c.commit.new.sets c.self.invariant c.self.view_is c.as_mut_slice.ensures.value c.commit.ensures;
-  lent = lent-committed c.self.inside.sets c.commit.new.sets c.self.invariant c.self.view_is c.as_mut_slice.ensures.value c.commit.ensures;
+  committed =
+      committed-after c.self.inside.sets c.commit.new.sets c.self.invariant c.self.view_is c.as_mut_slice.ensures.value
+      c.commit.ensures;
+  lent =
+      lent-committed c.self.inside.sets c.commit.new.sets c.self.invariant c.self.view_is c.as_mut_slice.ensures.value
+      c.commit.ensures;
   owner = ap (λ (v : Slotted). v.owner) c.self.view_is;
 }

@@ -12,46 +12,69 @@ use Rattle.cache_sets.proofs.sets.Sets.drop_line.Goals as goal
 pub remove-gone-requires : goal.remove-gone-requires
 remove-gone-requires c =
     once-reached _ _ _ _
-    (reached c.as_slice.ensures.value c.set_number-number.ensures.exact c.set_number-number.ensures.within c.index_mut-set.ensures.value)
+    (reached c.as_slice.ensures.value c.set_number-number.ensures.exact c.set_number-number.ensures.within
+    c.index_mut-set.ensures.value)
     _ _ _ c.self.invariant c.args.line.number
 
 pub give_back-requires : goal.give_back-requires
 give_back-requires c =
-    let at = reached c.as_slice.ensures.value c.set_number-number.ensures.exact c.set_number-number.ensures.within c.index_mut-set.ensures.value in
-    gone-out c.remove-gone.new.self c.self.invariant c.self.view_is at c.remove-gone.ensures.room c.remove-gone.ensures.left
+    let at =
+    reached c.as_slice.ensures.value c.set_number-number.ensures.exact c.set_number-number.ensures.within
+    c.index_mut-set.ensures.value in
+    gone-out c.remove-gone.new.self c.self.invariant c.self.view_is at c.remove-gone.ensures.room
+    c.remove-gone.ensures.left
     c.args.pool.now c.args.pool.now c.remove-gone.result
     c.requires.lent c.requires.resident c.remove-gone.ensures.gone
 
 pub overflow_sub-self : goal.overflow_sub-self
 overflow_sub-self c =
-    let bits = c.bits-before.ensures ∙ ap (λ (v : Slotted). bits_of (way_of v.residency c.args.line.number)) (sym c.self.view_is) in
+    let bits =
+    c.bits-before.ensures ∙ ap (λ (v : Slotted). bits_of (way_of v.residency c.args.line.number))
+    (sym c.self.view_is) in
     omega (arith, c.marks.ensures, marks-below _ _ _ _ _ _ c.self.invariant.sound bits)
 
 pub overflow_sub-self-2 : goal.overflow_sub-self-2
 overflow_sub-self-2 c =
-    let bits = c.bits-before.ensures ∙ ap (λ (v : Slotted). bits_of (way_of v.residency c.args.line.number)) (sym c.self.view_is) in
+    let bits =
+    c.bits-before.ensures ∙ ap (λ (v : Slotted). bits_of (way_of v.residency c.args.line.number))
+    (sym c.self.view_is) in
     omega (arith, c.writes.ensures, writes-below _ _ _ _ _ _ c.self.invariant.sound bits)
 
 pub invariant_of-self : goal.invariant_of-self
 invariant_of-self c =
     let i = c.self.inside in
-    let at = reached c.as_slice.ensures.value c.set_number-number.ensures.exact c.set_number-number.ensures.within c.index_mut-set.ensures.value in
-    let bits = c.bits-before.ensures ∙ ap (λ (v : Slotted). bits_of (way_of v.residency c.args.line.number)) (sym c.self.view_is) in
-    stands-dropped c.remove-gone.new.self c.self.invariant c.self.view_is at c.remove-gone.ensures.room c.remove-gone.ensures.left _ _
+    let at =
+    reached c.as_slice.ensures.value c.set_number-number.ensures.exact c.set_number-number.ensures.within
+    c.index_mut-set.ensures.value in
+    let bits =
+    c.bits-before.ensures ∙ ap (λ (v : Slotted). bits_of (way_of v.residency c.args.line.number))
+    (sym c.self.view_is) in
+    stands-dropped c.remove-gone.new.self c.self.invariant c.self.view_is at c.remove-gone.ensures.room
+    c.remove-gone.ensures.left _ _
     ((λ k. i.marked - c.marks.ensures k) ∙ marks-after_drop _ _ _ _ _ _ c.self.invariant.sound bits)
     ((λ k. i.written - c.writes.ensures k) ∙ writes-after_drop _ _ _ _ _ _ c.self.invariant.sound bits)
 
 pub returns : goal.returns
 returns c =
-    let at = reached c.as_slice.ensures.value c.set_number-number.ensures.exact c.set_number-number.ensures.within c.index_mut-set.ensures.value in
+    let at =
+    reached c.as_slice.ensures.value c.set_number-number.ensures.exact c.set_number-number.ensures.within
+    c.index_mut-set.ensures.value in
     let own = ap (λ (v : Slotted). v.owner) c.self.view_is in
     record {
-      without = without-after c.remove-gone.new.self c.self.invariant c.self.view_is at c.remove-gone.ensures.room c.remove-gone.ensures.left c.args.pool.now
-          c.give_back.new.pool c.remove-gone.result c.requires.lent c.requires.resident c.remove-gone.ensures.gone c.give_back.ensures;
-      lent = lent-without c.remove-gone.new.self c.self.invariant c.self.view_is at c.remove-gone.ensures.room c.remove-gone.ensures.left c.args.pool.now
-          c.give_back.new.pool c.remove-gone.result c.requires.lent c.requires.resident c.remove-gone.ensures.gone c.give_back.ensures;
+      without =
+          without-after c.remove-gone.new.self c.self.invariant c.self.view_is at c.remove-gone.ensures.room
+          c.remove-gone.ensures.left c.args.pool.now
+          c.give_back.new.pool c.remove-gone.result c.requires.lent c.requires.resident c.remove-gone.ensures.gone
+          c.give_back.ensures;
+      lent =
+          lent-without c.remove-gone.new.self c.self.invariant c.self.view_is at c.remove-gone.ensures.room
+          c.remove-gone.ensures.left c.args.pool.now
+          c.give_back.new.pool c.remove-gone.result c.requires.lent c.requires.resident c.remove-gone.ensures.gone
+          c.give_back.ensures;
       others = subst (λ o. LeavesOthers o c.args.pool.now c.give_back.new.pool) own
-          (leaves-after c.remove-gone.new.self c.self.invariant c.self.view_is at c.remove-gone.ensures.room c.remove-gone.ensures.left c.args.pool.now
-          c.give_back.new.pool c.remove-gone.result c.requires.lent c.requires.resident c.remove-gone.ensures.gone c.give_back.ensures);
+          (leaves-after c.remove-gone.new.self c.self.invariant c.self.view_is at c.remove-gone.ensures.room
+          c.remove-gone.ensures.left c.args.pool.now
+          c.give_back.new.pool c.remove-gone.result c.requires.lent c.requires.resident c.remove-gone.ensures.gone
+          c.give_back.ensures);
       owner = own;
     }

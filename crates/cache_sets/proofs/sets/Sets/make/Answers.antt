@@ -5,4 +5,5 @@ pub invariant_of-result : goal.invariant_of-result
 invariant_of-result c = stands-made c.args.config.now c.in_ok-sets.sets.items c.requires c.in_ok-sets.ensures
 
 pub returns : goal.returns
-returns c = shown-made c.args.config.now.ways c.args.config.now.sets c.args.owner c.in_ok-sets.sets.items c.in_ok-sets.ensures
+returns c =
+    shown-made c.args.config.now.ways c.args.config.now.sets c.args.owner c.in_ok-sets.sets.items c.in_ok-sets.ensures

@@ -11,14 +11,23 @@ set_letter-requires c =
 
 pub invariant_of-self : goal.invariant_of-self
 invariant_of-self c =
-    let at = reached c.as_slice.ensures.value c.set_number-number.ensures.exact c.set_number-number.ensures.within c.index_mut-set.ensures.value in
-    stands-lettered c.set_letter.new.self c.self.invariant c.self.view_is at c.set_letter.ensures.room c.args.letter c.set_letter.ensures.lines c.requires.valid
+    let at =
+    reached c.as_slice.ensures.value c.set_number-number.ensures.exact c.set_number-number.ensures.within
+    c.index_mut-set.ensures.value in
+    stands-lettered c.set_letter.new.self c.self.invariant c.self.view_is at c.set_letter.ensures.room c.args.letter
+    c.set_letter.ensures.lines c.requires.valid
 
 pub returns : goal.returns
 returns c =
-    let at = reached c.as_slice.ensures.value c.set_number-number.ensures.exact c.set_number-number.ensures.within c.index_mut-set.ensures.value in
+    let at =
+    reached c.as_slice.ensures.value c.set_number-number.ensures.exact c.set_number-number.ensures.within
+    c.index_mut-set.ensures.value in
     record {
-      lettered = lettered-after c.set_letter.new.self c.self.invariant c.self.view_is at c.set_letter.ensures.room c.args.letter c.set_letter.ensures.lines;
-      lent = lent-lettered c.set_letter.new.self c.self.invariant c.self.view_is at c.set_letter.ensures.room c.args.letter c.set_letter.ensures.lines;
+      lettered =
+          lettered-after c.set_letter.new.self c.self.invariant c.self.view_is at c.set_letter.ensures.room
+          c.args.letter c.set_letter.ensures.lines;
+      lent =
+          lent-lettered c.set_letter.new.self c.self.invariant c.self.view_is at c.set_letter.ensures.room c.args.letter
+          c.set_letter.ensures.lines;
       owner = ap (λ (v : Slotted). v.owner) c.self.view_is;
     }

@@ -34,5 +34,6 @@ returns-clause-bytes c at =
     let old : Cached = lent port.pool.now port.sets.now in
     stored_byte old _ c.args.address c.args.len c.args.value at c.requires.size c.requires.aligned
     (writable_there old (line_number c.args.address) c.requires.permitted)
-    (ap length (sym (c.bytes_mut-bytes.ensures.value ∙ ap (bytes_of old) c.line_of.ensures)) ∙ c.put_at.ensures.whole_line)
+    (ap length (sym (c.bytes_mut-bytes.ensures.value ∙ ap (bytes_of old) c.line_of.ensures))
+    ∙ c.put_at.ensures.whole_line)
     ((returns-clause-put c).2.puts)

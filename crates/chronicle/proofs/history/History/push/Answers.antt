@@ -13,5 +13,6 @@ pub invariant_of-self : goal.invariant_of-self
 invariant_of-self c =
     let counted = c.count.ensures in
     keeps_more c.self.inside.entries c.push.new.self c.self.inside.counts c.count.new.self c.args.entry c.self.invariant
-    (subst (λ history. 1 ≤ spare_of history) (sym c.self.view_is) c.requires) c.push.ensures counted.tallies counted.small
+    (subst (λ history. 1 ≤ spare_of history) (sym c.self.view_is) c.requires) c.push.ensures
+    counted.tallies counted.small
     counted.steps counted.few

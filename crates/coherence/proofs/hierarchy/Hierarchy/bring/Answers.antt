@@ -14,7 +14,8 @@ returns-then-has c =
       moved =
           moved_by_keeping c.args.need h line self.first self.lines.items (lent_all c.args.pool.now self.caches.items)
           (lent_all c.keep.new.pool c.keep.new.caches.items)
-          (ap (λ cached. is_resident cached.residency line) (lent_at c.args.pool.now self.caches.items h) ∙ sym c.has.ensures ∙ c.if-has.true)
+          (ap (λ cached. is_resident cached.residency line) (lent_at c.args.pool.now self.caches.items h)
+          ∙ sym c.has.ensures ∙ c.if-has.true)
           c.keep.ensures.kept;
       lent = c.keep.ensures.lent;
       holds = c.keep.ensures.holds;

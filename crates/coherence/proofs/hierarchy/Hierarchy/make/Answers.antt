@@ -23,13 +23,15 @@ pub returns-clause-lent : goal.returns-clause-lent
 returns-clause-lent c pool offers =
     let config = c.args.config.now in
     subst (IsLentTo pool) (sym c.in_ok-empty_caches.ensures)
-    (lent-first pool config.harts config.ways config.sets (few_harts config.harts (ranges config c.requires.in_range).harts) offers)
+    (lent-first pool config.harts config.ways config.sets
+    (few_harts config.harts (ranges config c.requires.in_range).harts) offers)
 
 pub returns-clause-memory : goal.returns-clause-memory
 returns-clause-memory c pool =
     first_coherent c.args.image.now (c.base.result / 64) _ _ _ _ c.in_ok-lines_of.field-0.items
     (lent_all pool c.in_ok-empty_caches.field-0.items)
-    (ap (λ n. n / 64) c.base.ensures.exact) (rw c.bytes-2.ensures.exact at c.in_ok-lines_of.ensures) (returns-clause-caches c pool)
+    (ap (λ n. n / 64) c.base.ensures.exact) (rw c.bytes-2.ensures.exact at c.in_ok-lines_of.ensures)
+    (returns-clause-caches c pool)
 
 pub returns-clause-lines : goal.returns-clause-lines
 unfolding lines_at_first
@@ -48,5 +50,6 @@ returns-clause-first c pool =
     let lines : length c.in_ok-lines_of.field-0.items ≡ count =
     ap length c.in_ok-lines_of.ensures ∙ length-map-range_with_len (line_in c.bytes-2.result.now) 0 count in (
       ap (λ n. n / 64 * 64) c.base.ensures.exact ∙ whole_lines program.base c.base.ensures.valid.base_on_line,
-      ap (λ n. n * 64) (lines ∙ ap (λ b. length b / 64) c.bytes.ensures.exact) ∙ whole_lines (length program.bytes) c.base.ensures.valid.length_on_line,
+      ap (λ n. n * 64) (lines ∙ ap (λ b. length b / 64) c.bytes.ensures.exact)
+          ∙ whole_lines (length program.bytes) c.base.ensures.valid.length_on_line,
     )

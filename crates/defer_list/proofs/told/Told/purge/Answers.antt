@@ -7,7 +7,8 @@ use Rattle.defer_list.proofs.told.Told.purge.Goals as goal
 pub invariant_of-self : goal.invariant_of-self
 invariant_of-self c =
     rw c.from.ensures
-    (kept_taken _ _ c.self.invariant c.args.origin.number c.take_out.new.origins.items c.args.origin.small c.take_out.ensures)
+    (kept_taken _ _ c.self.invariant c.args.origin.number c.take_out.new.origins.items c.args.origin.small
+    c.take_out.ensures)
 
 pub returns-then-told : goal.returns-then-told
 returns-then-told c =

@@ -32,7 +32,8 @@ kept_is c =
       ap (λ p. length p.harts) c.fetch_action-action.ensures.same,
       c.requires.may.exists,
     ) in
-    let own_is = get_or_read _ _ _ inside c.index.ensures (new_own no_hart 0 0) ∙ ap (own_at mid.harts) c.from.ensures in
+    let own_is =
+    get_or_read _ _ _ inside c.index.ensures (new_own no_hart 0 0) ∙ ap (own_at mid.harts) c.from.ensures in
     ap (λ own. own.section) (sym own_is) ∙ sym c.section-section.ensures
 
 pub returns-in-Some-default : goal.returns-in-Some-default

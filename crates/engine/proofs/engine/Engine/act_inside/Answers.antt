@@ -12,10 +12,12 @@ miss-requires c =
     let some = c.requires.some in
     record {
       may =
-          may_miss (parts c.args.self.now) c.args.hart.number some.from some.section c.in-Misses.line.number c.in-Misses.need c.args.action
+          may_miss (parts c.args.self.now) c.args.hart.number some.from some.section c.in-Misses.line.number
+          c.in-Misses.need c.args.action
           (record {
             inside = some.inside;
-            rule_is = c.rule_inside.ensures some.from some.section some.inside ∙ ap definition_in_section c.in-Misses.is;
+            rule_is =
+                c.rule_inside.ensures some.from some.section some.inside ∙ ap definition_in_section c.in-Misses.is;
           })
           some.free c.requires.action c.requires.in_place;
     }

@@ -15,10 +15,12 @@ use Rattle.step_rules.proofs.Laws.NextAction.{next_swap as swap_next}
 use Rattle.step_rules.specs.Actions.{numbered_swap}
 
 pub enter-requires-clause-no_armed : goal.enter-requires-clause-no_armed
-enter-requires-clause-no_armed c = no_armed (parts c.args.self.now) c.args.hart.number c.requires.some.from c.requires.some.acts
+enter-requires-clause-no_armed c =
+    no_armed (parts c.args.self.now) c.args.hart.number c.requires.some.from c.requires.some.acts
 
 pub enter-requires-clause-running : goal.enter-requires-clause-running
-enter-requires-clause-running c = runs (parts c.args.self.now) c.args.hart.number c.requires.some.from c.requires.some.acts
+enter-requires-clause-running c =
+    runs (parts c.args.self.now) c.args.hart.number c.requires.some.from c.requires.some.acts
 
 pub enter-requires-clause-aligned : goal.enter-requires-clause-aligned
 enter-requires-clause-aligned c =
@@ -37,14 +39,16 @@ pub enter-requires-clause-resident : goal.enter-requires-clause-resident
 enter-requires-clause-resident c =
     let from = c.requires.some.from in
     let acts = c.requires.some.acts in
-    lock_there (parts c.args.self.now) c.args.hart.number from c.args.action acts c.requires.action (numbered_swap c.args.swap)
+    lock_there (parts c.args.self.now) c.args.hart.number from c.args.action acts c.requires.action
+    (numbered_swap c.args.swap)
     (c.requires.begins from acts)
 
 pub open_attempt-requires-clause-ready : goal.open_attempt-requires-clause-ready
 open_attempt-requires-clause-ready c =
     let from = c.requires.some.from in
     let acts = c.requires.some.acts in
-    ready_began (parts c.args.self.now) (parts c.enter.new.self) c.args.hart.number from c.args.action acts (numbered_swap c.args.swap)
+    ready_began (parts c.args.self.now) (parts c.enter.new.self) c.args.hart.number from c.args.action acts
+    (numbered_swap c.args.swap)
     c.in-Amo.rd.number c.requires.action (c.requires.begins from acts) c.enter.ensures
 
 pub unreachable-requires : goal.unreachable-requires
@@ -74,7 +78,8 @@ returns c =
           ∙ swap_found now h from c.args.action acts c.requires.action swap found))
           (subst IsAligned (sym c.requires.action) (aligned _ _ _ _)) in
           after_began now (parts c.enter.new.self) (bus_state c.open_attempt.new.self) c.args.hart from acts swap
-          c.in-Amo.op c.in-Amo.rd c.in-Amo.address c.in-Amo.source (sym c.in-Amo.is ∙ c.requires.action) found even c.enter.ensures
+          c.in-Amo.op c.in-Amo.rd c.in-Amo.address c.in-Amo.source (sym c.in-Amo.is ∙ c.requires.action) found
+          even c.enter.ensures
           c.open_attempt.ensures.copies_stay c.open_attempt.ensures.shows;
       outcome = λ from acts. began_outcome from h swap;
       memory_stays =

@@ -32,7 +32,8 @@ run_privately-requires c =
       may =
           subst (λ p. MayRunPrivately p c.args.hart.number c.args.action) (sym c.cover.ensures.new_is)
           (may_run_inside (parts c.args.self.now) c.args.hart c.requires.follows.from c.requires.follows.section
-          (option_map numbered_touch c.args.touch) c.args.action c.requires.follows.follows c.requires.action c.cover.ensures.cache
+          (option_map numbered_touch c.args.touch) c.args.action c.requires.follows.follows c.requires.action
+          c.cover.ensures.cache
           c.cover.ensures.bit);
     }
 
@@ -45,7 +46,8 @@ returns c section =
     let mid = c.cover.ensures in
     let ran = subst (λ p. RanPrivately p (parts c.run_privately.new.self) h c.args.action) mid.new_is
     c.run_privately.ensures in
-    let new_is = ran.new_is ∙ given_twice old h mid.cache ran.pool ran.cache (buffered_own ran.section (own_at old.harts h)) in
+    let new_is =
+    ran.new_is ∙ given_twice old h mid.cache ran.pool ran.cache (buffered_own ran.section (own_at old.harts h)) in
     record {
       ready =
           subst (λ p. IsReady p.bus) (sym new_is)

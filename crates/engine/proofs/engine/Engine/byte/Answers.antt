@@ -8,5 +8,6 @@ byte-requires-clause-told c = record { bytes = _; tells = c.requires.is_in.told 
 
 pub returns-clause-committed : goal.returns-clause-committed
 returns-clause-committed c state is =
-    told_byte (parts c.args.self.now).bus.copies state.committed c.args.address c.byte.result is.shows.memory c.byte.ensures.none_exactly_outside
+    told_byte (parts c.args.self.now).bus.copies state.committed c.args.address c.byte.result is.shows.memory
+    c.byte.ensures.none_exactly_outside
     (c.byte.ensures.committed _ is.told)

@@ -2,7 +2,8 @@
 use Rattle.std.proofs.Common.{◌∙◌, ap, refl, subst, sym}
 use Rattle.el_model.specs.InSection.{Commits, section_turn}
 use Rattle.el_model.specs.State.{ModelState, Section}
-use Rattle.engine.proofs.CommittedParts.{CommitsAt, IsBeforeCommit, can_count, commits_in, commits_over, counted, is_live_there, may_take_effect, ready_then}
+use Rattle.engine.proofs.CommittedParts.{CommitsAt, IsBeforeCommit, can_count, commits_in, commits_over, counted}
+use Rattle.engine.proofs.CommittedParts.{is_live_there, may_take_effect, ready_then}
 use Rattle.engine.proofs.Framed.{no_pool}
 use Rattle.engine.proofs.RolledBack.{clock_small, seen_small}
 use Rattle.engine.proofs.engine.Engine.commit.Goals as goal
@@ -19,7 +20,8 @@ count_with_release-count-requires-clause-live c =
 
 pub count_with_release-count-requires-clause-counted : goal.count_with_release-count-requires-clause-counted
 count_with_release-count-requires-clause-counted c =
-    can_count (parts c.args.self.now) c.args.hart.number c.requires.follows.from c.requires.follows.section c.requires.follows.follows
+    can_count (parts c.args.self.now) c.args.hart.number c.requires.follows.from c.requires.follows.section
+    c.requires.follows.follows
 
 pub close_attempt-requires-clause-clock_below_the_last : goal.close_attempt-requires-clause-clock_below_the_last
 close_attempt-requires-clause-clock_below_the_last c =
@@ -34,7 +36,8 @@ commit_in_cache-requires c =
     let some = c.requires.follows in
     record {
       may =
-          may_take_effect (parts c.args.self.now) _ c.args.hart.number some.from some.section c.args.action some.follows c.requires.action
+          may_take_effect (parts c.args.self.now) _ c.args.hart.number some.from some.section c.args.action some.follows
+          c.requires.action
           (record {
             pool = refl;
             copies = c.close_attempt.ensures.copies_stay;
@@ -45,7 +48,11 @@ commit_in_cache-requires c =
 
 -- the parts as the section takes effect
 abbrev before : (c : goal.After-commit_in_cache) → Parts
-before c = record (parts c.args.self.now) { bus = bus_state c.close_attempt.new.self; harts = c.unreserve_others.new.harts.items }
+before c =
+    record (parts c.args.self.now) {
+      bus = bus_state c.close_attempt.new.self;
+      harts = c.unreserve_others.new.harts.items;
+    }
 
 at : (c : goal.After-commit_in_cache) (from : ModelState) (section : Section) →
     FollowsRule (parts c.args.self.now) c.args.hart.number from section Commits →
@@ -65,7 +72,9 @@ at c from section follows =
       next = c.requires.action;
       closed = c.close_attempt.ensures.shows (freed from c.args.hart.number) follows.inside.may.is_in.shows;
       copies = c.close_attempt.ensures.copies_stay;
-      over = commits_over old (before c) c.args.hart.number done.pool done.cache done.section c.args.action stays done.over;
+      over =
+          commits_over old (before c) c.args.hart.number done.pool done.cache done.section c.args.action
+          stays done.over;
     }
 
 pub returns : goal.returns

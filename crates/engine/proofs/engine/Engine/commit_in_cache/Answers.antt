@@ -18,14 +18,17 @@ returns c =
     let cache = c.commit.new.sets in
     let section = c.commit.new.self.section in
     let inside : c.from.result < length old.harts = omega (arith, c.from.ensures, c.requires.may.there.hart_exists) in
-    let own_is = get_or_read _ _ _ inside c.index_mut.ensures.value (new_own no_hart 0 0) ∙ ap (own_at old.harts) c.from.ensures in
+    let own_is = get_or_read _ _ _ inside c.index_mut.ensures.value (new_own no_hart 0 0)
+    ∙ ap (own_at old.harts) c.from.ensures in
     record {
       pool = pool;
       cache = cache;
       section = section;
       over =
-          subst (λ (own : OwnState). CommitsOver old.pool pool (sets_in old h) cache own.section section c.args.action) own_is
-          (subst (λ sets. CommitsOver old.pool pool sets cache c.index_mut.result.now.section section c.args.action) c.sets_mut.ensures.value
+          subst (λ (own : OwnState). CommitsOver old.pool pool (sets_in old h) cache own.section section c.args.action)
+          own_is
+          (subst (λ sets. CommitsOver old.pool pool sets cache c.index_mut.result.now.section section c.args.action)
+          c.sets_mut.ensures.value
           (record {
             released = c.commit.ensures.released;
             committed = c.commit.ensures.cache;
@@ -36,5 +39,7 @@ returns c =
               beside = c.commit.ensures.beside;
             };
           }));
-      new_is = put_own old h c.from.result pool cache c.commit.new.self _ c.from.ensures (c.commit.ensures.own ∙ ap (committed_own section) own_is);
+      new_is =
+          put_own old h c.from.result pool cache c.commit.new.self _ c.from.ensures
+          (c.commit.ensures.own ∙ ap (committed_own section) own_is);
     }

@@ -23,8 +23,10 @@ use Rattle.step_rules.specs.Actions.{numbered_swap}
 
 pub mark_read-requires-clause-resident : goal.mark_read-requires-clause-resident
 mark_read-requires-clause-resident c =
-    subst (λ line. is_resident (sets_in (parts c.args.self.now) c.args.hart.number).residency line ≡ true) (sym c.line_of.ensures)
-    (word_line_there (parts c.args.self.now) c.args.hart.number c.requires.follows.from (armed_of c.args.armed) c.requires.follows.follows.acts)
+    subst (λ line. is_resident (sets_in (parts c.args.self.now) c.args.hart.number).residency line ≡ true)
+    (sym c.line_of.ensures)
+    (word_line_there (parts c.args.self.now) c.args.hart.number c.requires.follows.from (armed_of c.args.armed)
+    c.requires.follows.follows.acts)
 
 pub note_armed-requires-clause-ready : goal.note_armed-requires-clause-ready
 note_armed-requires-clause-ready c =
@@ -32,8 +34,10 @@ note_armed-requires-clause-ready c =
     let h = c.args.hart.number in
     let cache = c.mark_read.ensures.cache in
     subst IsReady (sym (ap (λ p. p.bus) c.mark_read.ensures.new_is))
-    (marked_ready old c.args.hart (armed_of c.args.armed) (numbered_swap c.args.swap) c.requires.follows.from c.requires.follows.follows cache
-    (marked_for old c.args.hart (armed_of c.args.armed) (numbered_swap c.args.swap) c.requires.follows.from c.requires.follows.follows cache
+    (marked_ready old c.args.hart (armed_of c.args.armed) (numbered_swap c.args.swap) c.requires.follows.from
+    c.requires.follows.follows cache
+    (marked_for old c.args.hart (armed_of c.args.armed) (numbered_swap c.args.swap) c.requires.follows.from
+    c.requires.follows.follows cache
     (subst (λ line. IsReadMarked (sets_in old h) cache line) c.line_of.ensures c.mark_read.ensures.marked)))
 
 pub begin_armed-requires : goal.begin_armed-requires
@@ -44,33 +48,45 @@ begin_armed-requires c =
     let same = ap (λ p. p.harts) c.mark_read.ensures.new_is in
     let inside : c.from.result < length mid.harts =
     omega (arith, c.from.ensures, ap length same, c.requires.follows.follows.acts.may.exists) in
-    let own_is = get_or_read _ _ _ inside c.index_mut.ensures.value (new_own no_hart 0 0) ∙ ap (own_at mid.harts) c.from.ensures
+    let own_is =
+    get_or_read _ _ _ inside c.index_mut.ensures.value (new_own no_hart 0 0) ∙ ap (own_at mid.harts) c.from.ensures
     ∙ ap (λ harts. own_at harts h) same in
-    armed_some old h (armed_of c.args.armed) c.requires.follows.from c.requires.follows.follows.acts c.index_mut.result.now own_is
+    armed_some old h (armed_of c.args.armed) c.requires.follows.from c.requires.follows.follows.acts
+    c.index_mut.result.now own_is
 
 pub open_attempt-requires-clause-hart_exists : goal.open_attempt-requires-clause-hart_exists
 open_attempt-requires-clause-hart_exists c =
     let old = parts c.args.self.now in
     let h = c.args.hart.number in
     let cache = c.mark_read.ensures.cache in
-    agent_there old c.args.hart (armed_of c.args.armed) (numbered_swap c.args.swap) c.requires.follows.from c.requires.follows.follows cache
-    (marked_for old c.args.hart (armed_of c.args.armed) (numbered_swap c.args.swap) c.requires.follows.from c.requires.follows.follows cache
-    (subst (λ line. IsReadMarked (sets_in old h) cache line) c.line_of.ensures c.mark_read.ensures.marked)) (bus_state c.note_armed.new.self)
-    (subst (λ bus. LeavesNoted h 0 bus (bus_state c.note_armed.new.self)) (ap (λ p. p.bus) c.mark_read.ensures.new_is) c.note_armed.ensures)
+    agent_there old c.args.hart (armed_of c.args.armed) (numbered_swap c.args.swap) c.requires.follows.from
+    c.requires.follows.follows cache
+    (marked_for old c.args.hart (armed_of c.args.armed) (numbered_swap c.args.swap) c.requires.follows.from
+    c.requires.follows.follows cache
+    (subst (λ line. IsReadMarked (sets_in old h) cache line) c.line_of.ensures c.mark_read.ensures.marked))
+    (bus_state c.note_armed.new.self)
+    (subst (λ bus. LeavesNoted h 0 bus (bus_state c.note_armed.new.self)) (ap (λ p. p.bus) c.mark_read.ensures.new_is)
+    c.note_armed.ensures)
 
 pub open_attempt-requires-clause-no_request : goal.open_attempt-requires-clause-no_request
 open_attempt-requires-clause-no_request c =
     let old = parts c.args.self.now in
     let h = c.args.hart.number in
     let cache = c.mark_read.ensures.cache in
-    waits_not old c.args.hart (armed_of c.args.armed) (numbered_swap c.args.swap) c.requires.follows.from c.requires.follows.follows cache
-    (marked_for old c.args.hart (armed_of c.args.armed) (numbered_swap c.args.swap) c.requires.follows.from c.requires.follows.follows cache
-    (subst (λ line. IsReadMarked (sets_in old h) cache line) c.line_of.ensures c.mark_read.ensures.marked)) (bus_state c.note_armed.new.self)
-    (subst (λ bus. LeavesNoted h 0 bus (bus_state c.note_armed.new.self)) (ap (λ p. p.bus) c.mark_read.ensures.new_is) c.note_armed.ensures)
+    waits_not old c.args.hart (armed_of c.args.armed) (numbered_swap c.args.swap) c.requires.follows.from
+    c.requires.follows.follows cache
+    (marked_for old c.args.hart (armed_of c.args.armed) (numbered_swap c.args.swap) c.requires.follows.from
+    c.requires.follows.follows cache
+    (subst (λ line. IsReadMarked (sets_in old h) cache line) c.line_of.ensures c.mark_read.ensures.marked))
+    (bus_state c.note_armed.new.self)
+    (subst (λ bus. LeavesNoted h 0 bus (bus_state c.note_armed.new.self)) (ap (λ p. p.bus) c.mark_read.ensures.new_is)
+    c.note_armed.ensures)
 
 pub unreachable-requires : goal.unreachable-requires
 unreachable-requires c =
-    let of = conditional_there (parts c.args.self.now) c.args.hart (armed_of c.args.armed) (numbered_swap c.args.swap) c.requires.follows.from
+    let of =
+    conditional_there (parts c.args.self.now) c.args.hart (armed_of c.args.armed) (numbered_swap c.args.swap)
+    c.requires.follows.from
     c.requires.follows.follows c.args.action c.requires.action in
     c.in_default.not-StoreConditional _ _ _ of.is
 
@@ -85,11 +101,14 @@ returns c =
     let bus = bus_state c.open_attempt.new.self in
     let marks = marked_for old c.args.hart armed swap c.requires.follows.from c.requires.follows.follows cache
     (subst (λ line. IsReadMarked (sets_in old h) cache line) c.line_of.ensures c.mark_read.ensures.marked) in
-    let noted = subst (λ b. LeavesNoted h 0 b (bus_state c.note_armed.new.self)) (ap (λ p. p.bus) c.mark_read.ensures.new_is) c.note_armed.ensures in
+    let noted =
+    subst (λ b. LeavesNoted h 0 b (bus_state c.note_armed.new.self)) (ap (λ p. p.bus) c.mark_read.ensures.new_is)
+    c.note_armed.ensures in
     let same = ap (λ p. p.harts) c.mark_read.ensures.new_is in
     let inside : c.from.result < length mid.harts =
     omega (arith, c.from.ensures, ap length same, c.requires.follows.follows.acts.may.exists) in
-    let own_is = get_or_read _ _ _ inside c.index_mut.ensures.value (new_own no_hart 0 0) ∙ ap (own_at mid.harts) c.from.ensures
+    let own_is =
+    get_or_read _ _ _ inside c.index_mut.ensures.value (new_own no_hart 0 0) ∙ ap (own_at mid.harts) c.from.ensures
     ∙ ap (λ harts. own_at harts h) same in
     record {
       ready = c.open_attempt.ensures.ready;
@@ -97,13 +116,16 @@ returns c =
           let k = keeps_private old h from armed follows.acts in
           let reserved : Reserved = record { armed = armed; old = k.old } in
           let began = of_armed old h armed from follows.acts c.index_mut.result.now own_is
-          (λ r. c.begin_armed.new.self ≡ elided_own r c.args.swap.new c.in-StoreConditional.rd.number c.index_mut.result.now)
+          (λ r. c.begin_armed.new.self ≡ elided_own r c.args.swap.new c.in-StoreConditional.rd.number
+          c.index_mut.result.now)
           c.begin_armed.ensures.own reserved k.is in
           let new_is = put_in old mid (returned old.bus h cache) bus h c.from.result c.begin_armed.new.self
-          (elided_own reserved c.args.swap.new c.in-StoreConditional.rd.number (own_at old.harts h)) c.mark_read.ensures.new_is c.from.ensures
+          (elided_own reserved c.args.swap.new c.in-StoreConditional.rd.number (own_at old.harts h))
+          c.mark_read.ensures.new_is c.from.ensures
           (began ∙ ap (elided_own reserved c.args.swap.new c.in-StoreConditional.rd.number) own_is) in
           subst (λ p. IsInState p (armed_turn from h armed).state) (sym new_is)
-          (elided_in old c.args.hart armed swap from follows cache marks (bus_state c.note_armed.new.self) noted bus c.open_attempt.ensures.copies_stay
+          (elided_in old c.args.hart armed swap from follows cache marks (bus_state c.note_armed.new.self) noted bus
+          c.open_attempt.ensures.copies_stay
           c.open_attempt.ensures.shows
           c.in-StoreConditional.rd c.in-StoreConditional.address c.in-StoreConditional.value
           (sym c.in-StoreConditional.is ∙ c.requires.action) reserved k.is);

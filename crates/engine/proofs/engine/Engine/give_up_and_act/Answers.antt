@@ -8,7 +8,8 @@ use Rattle.snoop.specs.Shows.{bus_state}
 
 pub act-requires : goal.act-requires
 act-requires c =
-    may_act_somewhere (parts c.args.self.now) (bus_state c.give_up.new.self) c.args.hart.number c.requires.stands c.requires.hart_exists
+    may_act_somewhere (parts c.args.self.now) (bus_state c.give_up.new.self) c.args.hart.number c.requires.stands
+    c.requires.hart_exists
     c.requires.running c.requires.free c.give_up.ensures.ready c.give_up.ensures.copies_stay c.give_up.ensures.shows
 
 pub returns : goal.returns

@@ -15,25 +15,29 @@ pub run_privately-requires : goal.run_privately-requires
 run_privately-requires c =
     record {
       may =
-          may_run (parts c.args.self.now) c.args.hart.number (armed_of c.args.armed) c.requires.follows.from c.requires.follows.follows
+          may_run (parts c.args.self.now) c.args.hart.number (armed_of c.args.armed) c.requires.follows.from
+          c.requires.follows.follows
           c.args.action c.requires.action;
     }
 
 pub one_more-requires : goal.one_more-requires
 one_more-requires c =
-    (continues_at c.requires.follows.from c.args.hart.number (armed_of c.args.armed) c.requires.follows.follows.rule_is).fits
+    (continues_at c.requires.follows.from c.args.hart.number (armed_of c.args.armed)
+    c.requires.follows.follows.rule_is).fits
 
 pub note_armed-requires-clause-few : goal.note_armed-requires-clause-few
 note_armed-requires-clause-few c =
     let fits =
-    (continues_at c.requires.follows.from c.args.hart.number (armed_of c.args.armed) c.requires.follows.follows.rule_is).fits in
+    (continues_at c.requires.follows.from c.args.hart.number (armed_of c.args.armed)
+    c.requires.follows.follows.rule_is).fits in
     omega (arith, c.one_more.ensures, fits)
 
 pub note_armed-requires-clause-ready : goal.note_armed-requires-clause-ready
 note_armed-requires-clause-ready c =
     let ran = c.run_privately.ensures in
     subst (λ p. IsReady p.bus) (sym ran.new_is)
-    (continued_ready (parts c.args.self.now) c.args.hart (armed_of c.args.armed) c.requires.follows.from c.requires.follows.follows c.args.action
+    (continued_ready (parts c.args.self.now) c.args.hart (armed_of c.args.armed) c.requires.follows.from
+    c.requires.follows.follows c.args.action
     c.requires.action ran.pool ran.cache ran.section ran.over)
 
 pub returns : goal.returns
@@ -50,7 +54,9 @@ returns c =
       ready = c.note_armed.ensures.ready;
       state = λ from follows.
           subst (λ p. IsInState (record p { bus = bus }) (armed_turn from h armed).state) (sym ran.new_is)
-          (continued_in old c.args.hart armed from follows c.args.action c.requires.action ran.pool ran.cache ran.section ran.over bus noted);
+          (continued_in old c.args.hart armed from follows c.args.action c.requires.action ran.pool ran.cache
+          ran.section ran.over bus noted);
       outcome = λ from follows. continues_outcome from h armed follows.rule_is;
-      memory_stays = ap (λ copies. copies.lines) c.note_armed.ensures.copies_stay ∙ ap (λ p. p.bus.copies.lines) ran.new_is;
+      memory_stays =
+          ap (λ copies. copies.lines) c.note_armed.ensures.copies_stay ∙ ap (λ p. p.bus.copies.lines) ran.new_is;
     }

@@ -15,9 +15,11 @@ returns c from acts =
     let h = c.args.hart.number in
     let within : c.from.result < length c.args.self.now.harts.items = omega (arith, c.from.ensures, acts.may.exists) in
     let same : c.index_mut-own.result.now ≡ own_at now.harts h =
-    get_or_read _ _ _ within c.index_mut-own.ensures.value (new_own no_hart 0 0) ∙ ap (own_at now.harts) c.from.ensures in
+    get_or_read _ _ _ within c.index_mut-own.ensures.value (new_own no_hart 0 0)
+    ∙ ap (own_at now.harts) c.from.ensures in
     let next = c.requires.action ∙ action_is now h from acts in
-    let pc = ap (λ view. view.pc) (sym (is_own now h from acts).view) ∙ ap committed_pc (sym same) ∙ ap (λ view. view.pc) (sym c.committed.ensures) in
+    let pc = ap (λ view. view.pc) (sym (is_own now h from acts).view) ∙ ap committed_pc (sym same)
+    ∙ ap (λ view. view.pc) (sym c.committed.ensures) in
     let code = sym acts.may.is_in.code ∙ sym c.code.ensures in
     let learnt = c.has_run.ensures.ran from h (record {
       config_is = sym acts.may.is_in.config;

@@ -16,9 +16,11 @@ use Rattle.snoop.specs.Shows.{bus_state}
 
 pub note_armed-requires-clause-ready : goal.note_armed-requires-clause-ready
 note_armed-requires-clause-ready c =
-    unmarked_ready (parts c.args.self.now) c.args.hart (armed_of c.args.armed) c.requires.follows.from c.requires.follows.follows c.clear_bits.new.self
+    unmarked_ready (parts c.args.self.now) c.args.hart (armed_of c.args.armed) c.requires.follows.from
+    c.requires.follows.follows c.clear_bits.new.self
     (subst (λ sets. IsClearedThere sets c.clear_bits.new.self) c.sets_mut.ensures.value
-    (cleared_there c.sets_mut.result.now c.clear_bits.new.self c.clear_bits.ensures.cleared c.clear_bits.ensures.lent c.clear_bits.ensures.owner))
+    (cleared_there c.sets_mut.result.now c.clear_bits.new.self c.clear_bits.ensures.cleared c.clear_bits.ensures.lent
+    c.clear_bits.ensures.owner))
 
 pub returns : goal.returns
 returns c =
@@ -29,8 +31,10 @@ returns c =
     let clears = subst (λ sets. IsClearedThere sets c.clear_bits.new.self) c.sets_mut.ensures.value
     (cleared_there c.sets_mut.result.now c.clear_bits.new.self c.clear_bits.ensures.cleared c.clear_bits.ensures.lent
     c.clear_bits.ensures.owner) in
-    let inside : c.from.result < length old.harts = omega (arith, c.from.ensures, c.requires.follows.follows.acts.may.exists) in
-    let kept_is = get_or_read _ _ _ inside c.index_mut.ensures.value (new_own no_hart 0 0) ∙ ap (own_at old.harts) c.from.ensures in
+    let inside : c.from.result < length old.harts =
+    omega (arith, c.from.ensures, c.requires.follows.follows.acts.may.exists) in
+    let kept_is = get_or_read _ _ _ inside c.index_mut.ensures.value (new_own no_hart 0 0)
+    ∙ ap (own_at old.harts) c.from.ensures in
     let harts = ap (λ i. slice_set old.harts i c.let_go.new.self) c.from.ensures
     ∙ ap (slice_set old.harts h) (c.let_go.ensures.own ∙ ap let_go_own kept_is) in
     record {

@@ -13,7 +13,8 @@ returns c =
       is_in =
           first_in c.args.image.now config _ refl c.memory_of.ensures c.in_ok-make.ensures.shows
           (c.in_ok-make.ensures.told _ (offers_first config _ c.requires.in_range made))
-          (λ h inside. lent_first config _ h c.requires.in_range made (subst (λ n. h < n) c.requires.one_hart_each inside))
+          (λ h inside. lent_first config _ h c.requires.in_range made
+          (subst (λ n. h < n) c.requires.one_hart_each inside))
           c.in_ok-first_harts.ensures (c.in_ok-make-2.ensures ∙ c.in_ok-share.ensures ∙ c.code.ensures.exact)
           c.in_ok-make-3.ensures;
       memory = c.in_ok-make.ensures.memory;

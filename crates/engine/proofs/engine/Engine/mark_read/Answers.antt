@@ -26,7 +26,8 @@ returns c =
           subst (λ (cache : Slotted). IsReadMarked cache c.touch.new.self line) c.sets_mut-sets.ensures.value
           (record {
             ways = (most.touched no_pool).ways ∙ (bit.marked no_pool).ways;
-            residency = (most.touched no_pool).residency ∙ ap (λ cache. touched cache line) (bit.marked no_pool).residency;
+            residency =
+                (most.touched no_pool).residency ∙ ap (λ cache. touched cache line) (bit.marked no_pool).residency;
             keeps = record {
               owner = most.owner ∙ bit.owner;
               lent = λ pool owed. most.lent pool (bit.lent pool owed);

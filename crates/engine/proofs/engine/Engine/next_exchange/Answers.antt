@@ -33,7 +33,8 @@ bytes-requires c =
       lent = subst (IsLent now.pool) (sym c.sets.ensures.exact) (lends now h from c.requires.some.acts);
       resident =
           subst (λ line. is_resident c.sets.result.now.residency line ≡ true) (sym c.line_of.ensures)
-          (subst (λ (cache : Slotted). is_resident cache.residency (line_number c.in-Some.exchange.word) ≡ true) (sym c.sets.ensures.exact)
+          (subst (λ (cache : Slotted). is_resident cache.residency (line_number c.in-Some.exchange.word) ≡ true)
+          (sym c.sets.ensures.exact)
           (written_there (cache_in now h) c.args.action swap.word
           (exchange_writes byte c.args.action swap
           (exchange_next c.args.action from.committed h next ∙ sym (c.in-Some.ensures.next from.committed h next)))
@@ -63,14 +64,18 @@ returns-in-Some c from acts =
     let swap = swap_over byte c.in-Some.exchange in
     let found = c.in-Some.ensures.next from.committed h next in
     let there = written_there (cache_in now h) c.args.action swap.word
-    (exchange_writes byte c.args.action swap (exchange_next c.args.action from.committed h next ∙ sym found)) c.requires.permitted in
+    (exchange_writes byte c.args.action swap (exchange_next c.args.action from.committed h next ∙ sym found))
+    c.requires.permitted in
     ap (with_old word c.in-Some.exchange.new)
     (c.word_in.ensures
     ∙ ap (λ bytes. loaded (slice_index bytes) (word % LINE_BYTES) 4) c.bytes.ensures
-    ∙ ap (λ line. loaded (slice_index (bytes_of (lent now.pool c.sets.result.now) line)) (word % LINE_BYTES) 4) c.line_of.ensures
-    ∙ ap (λ cache. loaded (slice_index (bytes_of (lent now.pool cache) (line_number word))) (word % LINE_BYTES) 4) c.sets.ensures.exact
+    ∙ ap (λ line. loaded (slice_index (bytes_of (lent now.pool c.sets.result.now) line)) (word % LINE_BYTES) 4)
+    c.line_of.ensures
+    ∙ ap (λ cache. loaded (slice_index (bytes_of (lent now.pool cache) (line_number word))) (word % LINE_BYTES) 4)
+    c.sets.ensures.exact
     ∙ word_told now.pool now.bus from h word acts.may.is_in.told (on_line now h from acts)
     (exchanged_from (span_of from.committed) (room_of from.committed) byte c.args.action swap
-    (in_memory now h from acts c.args.action c.requires.in_place) (exchange_next c.args.action from.committed h next ∙ sym found))
+    (in_memory now h from acts c.args.action c.requires.in_place)
+    (exchange_next c.args.action from.committed h next ∙ sym found))
     (c.in-Some.ensures.aligned (subst IsAligned (sym c.requires.action) (aligned _ _ _ _))) there)
     ∙ found

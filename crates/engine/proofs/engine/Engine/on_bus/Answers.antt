@@ -11,12 +11,14 @@ pub restore_by-requires-clause-live : goal.restore_by-requires-clause-live
 restore_by-requires-clause-live c g winner inside named =
     had_section (parts c.args.self.now) (parts c.pass_to_bus-outcome.new.self) c.requires.stands c.args.event g winner
     c.pass_to_bus-outcome.ensures.rest_stays inside
-    (ap (λ outcome. winner_over outcome g) (sym (c.pass_to_bus-outcome.ensures.outcome c.requires.stands.state c.requires.stands.is_in))
+    (ap (λ outcome. winner_over outcome g)
+    (sym (c.pass_to_bus-outcome.ensures.outcome c.requires.stands.state c.requires.stands.is_in))
     ∙ named)
 
 pub restore_by-requires-clause-armed : goal.restore_by-requires-clause-armed
 restore_by-requires-clause-armed c g inside some =
-    was_armed (parts c.args.self.now) (parts c.pass_to_bus-outcome.new.self) c.requires.stands c.args.event g c.requires.no_step
+    was_armed (parts c.args.self.now) (parts c.pass_to_bus-outcome.new.self) c.requires.stands c.args.event g
+    c.requires.no_step
     c.pass_to_bus-outcome.ensures.rest_stays inside
     (subst (λ freed. 1 ≤ count_in freed g)
     (ap freed_of_outcome (c.pass_to_bus-outcome.ensures.outcome c.requires.stands.state c.requires.stands.is_in)) some)
@@ -41,5 +43,6 @@ returns c =
 
 pub restore_by-requires-clause-lent : goal.restore_by-requires-clause-lent
 restore_by-requires-clause-lent c =
-    holds_lent (parts c.args.self.now) (parts c.pass_to_bus-outcome.new.self) c.requires.stands c.pass_to_bus-outcome.ensures.rest_stays
+    holds_lent (parts c.args.self.now) (parts c.pass_to_bus-outcome.new.self) c.requires.stands
+    c.pass_to_bus-outcome.ensures.rest_stays
     c.pass_to_bus-outcome.ensures.holds

@@ -25,12 +25,14 @@ delivers kind is serves = by (sym is ∙ serves)
 
 pub returns-in-Order-clause-shows : goal.returns-in-Order-clause-shows
 returns-in-Order-clause-shows c state reached is =
-    shown_after (bus_state c.order.new.self) state c.args.event _ (order_is state c.args.event c.in-Order.is) reached c.requires.no_step
+    shown_after (bus_state c.order.new.self) state c.args.event _ (order_is state c.args.event c.in-Order.is) reached
+    c.requires.no_step
     (λ keeps. c.order.ensures.leaves.shows state (record { shows = is.shows; keeps = keeps }))
 
 pub returns-in-Serve-clause-shows : goal.returns-in-Serve-clause-shows
 returns-in-Serve-clause-shows c state reached is =
-    shown_after (bus_state c.serve.new.self) state c.args.event _ (serve_is state c.args.event c.in-Serve.is) reached c.requires.no_step
+    shown_after (bus_state c.serve.new.self) state c.args.event _ (serve_is state c.args.event c.in-Serve.is) reached
+    c.requires.no_step
     (λ keeps. c.serve.ensures.leaves.shows state (record { shows = is.shows; keeps = keeps }))
 
 pub returns-in-Order-clause-memory : goal.returns-in-Order-clause-memory
@@ -47,24 +49,28 @@ returns-in-Serve-clause-memory c state is =
     c.serve.ensures.memory
     ∙ served_lines old.pool old.bus state c.args.event c.serve.result is.shows is.told
     (subst (λ n. c.args.event.hart.number < n) is.one_each c.requires.hart_exists)
-    c.in-Serve.is (c.serve.ensures.outcome state is.shows ∙ ap (λ turn. turn.outcome) (sym (serve_is state c.args.event c.in-Serve.is)))
+    c.in-Serve.is (c.serve.ensures.outcome state is.shows
+    ∙ ap (λ turn. turn.outcome) (sym (serve_is state c.args.event c.in-Serve.is)))
 
 pub serve-requires-clause-told : goal.serve-requires-clause-told
 serve-requires-clause-told c = record { bytes = _; tells = c.requires.stands.is_in.told }
 
 pub returns-in-Order-clause-told : goal.returns-in-Order-clause-told
 returns-in-Order-clause-told c state reached is =
-    told_committed c.args.self.now.pool (bus_state c.order.new.self) state.committed (next state c.args.event).state.committed
+    told_committed c.args.self.now.pool (bus_state c.order.new.self) state.committed
+    (next state c.args.event).state.committed
     (bytes_kept state c.args.event reached c.requires.no_step) (c.order.ensures.leaves.told _ _ is.told)
 
 pub returns-in-Deliver-clause-told : goal.returns-in-Deliver-clause-told
 returns-in-Deliver-clause-told c state reached is =
-    told_committed c.args.self.now.pool (bus_state c.deliver.new.self) state.committed (next state c.args.event).state.committed
+    told_committed c.args.self.now.pool (bus_state c.deliver.new.self) state.committed
+    (next state c.args.event).state.committed
     (bytes_kept state c.args.event reached c.requires.no_step) (c.deliver.ensures.leaves.told _ _ is.told)
 
 pub returns-in-Serve-clause-told : goal.returns-in-Serve-clause-told
 returns-in-Serve-clause-told c state reached is =
-    told_committed c.serve.new.pool (bus_state c.serve.new.self) state.committed (next state c.args.event).state.committed
+    told_committed c.serve.new.pool (bus_state c.serve.new.self) state.committed
+    (next state c.args.event).state.committed
     (bytes_kept state c.args.event reached c.requires.no_step) (c.serve.ensures.leaves.told _ is.told)
 
 pub returns-in-Order-clause-holds : goal.returns-in-Order-clause-holds

@@ -32,23 +32,28 @@ sets_mut-requires c =
     (c.close_attempt.ensures.shows (freed c.requires.from c.args.hart.number) may.is_in.shows)
 
 -- what the hart keeps
-own_is : (c : goal.After-roll_back-arg-1) → c.index_mut.result.now ≡ own_at (parts c.args.self.now).harts c.args.hart.number
+own_is : (c : goal.After-roll_back-arg-1) →
+    c.index_mut.result.now ≡ own_at (parts c.args.self.now).harts c.args.hart.number
 own_is c =
     let old = parts c.args.self.now in
-    let inside : c.from.result < length old.harts = omega (arith, c.from.ensures, c.requires.follows.inside.may.exists) in
+    let inside : c.from.result < length old.harts =
+    omega (arith, c.from.ensures, c.requires.follows.inside.may.exists) in
     get_or_read _ _ _ inside c.index_mut.ensures.value (new_own no_hart 0 0) ∙ ap (own_at old.harts) c.from.ensures
 
 pub roll_back-requires-clause-lent : goal.roll_back-requires-clause-lent
 roll_back-requires-clause-lent c =
     let may = c.requires.follows.inside.may in
-    subst (λ (own : OwnState). IsLent c.args.self.now.pool own.section.hold) (sym (own_is c)) (may.is_in.harts c.args.hart.number may.exists).lent
+    subst (λ (own : OwnState). IsLent c.args.self.now.pool own.section.hold) (sym (own_is c))
+    (may.is_in.harts c.args.hart.number may.exists).lent
 
 -- the cache has no bits
 clears : (c : goal.After-self-2-1) →
-    IsClearedThere (slotted_at (bus_state c.close_attempt.new.self).copies.caches c.args.hart.number) c.clear_bits.new.self
+    IsClearedThere (slotted_at (bus_state c.close_attempt.new.self).copies.caches c.args.hart.number)
+    c.clear_bits.new.self
 clears c =
     subst (λ cache. IsClearedThere cache c.clear_bits.new.self) c.sets_mut.ensures.value
-    (cleared_there c.sets_mut.result.now c.clear_bits.new.self c.clear_bits.ensures.cleared c.clear_bits.ensures.lent c.clear_bits.ensures.owner)
+    (cleared_there c.sets_mut.result.now c.clear_bits.new.self c.clear_bits.ensures.cleared c.clear_bits.ensures.lent
+    c.clear_bits.ensures.owner)
 
 pub returns : goal.returns
 returns c section =
@@ -59,9 +64,11 @@ returns c section =
     let pool = c.roll_back.new.pool in
     let some = c.requires.follows.inside.may in
     let inside : c.from.result < length old.harts = omega (arith, c.from.ensures, some.exists) in
-    let own_is = get_or_read _ _ _ inside c.index_mut.ensures.value (new_own no_hart 0 0) ∙ ap (own_at old.harts) c.from.ensures in
+    let own_is = get_or_read _ _ _ inside c.index_mut.ensures.value (new_own no_hart 0 0)
+    ∙ ap (own_at old.harts) c.from.ensures in
     let own_then = c.roll_back.ensures.own ∙ ap (rolled_back_own c.args.cause) own_is in
-    let harts = ap (λ i. slice_set old.harts i c.roll_back.new.self) c.from.ensures ∙ ap (slice_set old.harts h) own_then in
+    let harts =
+    ap (λ i. slice_set old.harts i c.roll_back.new.self) c.from.ensures ∙ ap (slice_set old.harts h) own_then in
     record {
       ready =
           rolled_ready old bus h c.requires.from cache some c.close_attempt.ensures.ready
@@ -71,12 +78,14 @@ returns c section =
           (λ list. IsInState (record old { pool = pool; bus = returned bus h cache; harts = list })
           (section_turn from h section).state) (sym harts)
           (rolled_in old pool bus c.args.hart from section cache c.args.cause follows
-          (c.close_attempt.ensures.shows (freed from h) follows.inside.may.is_in.shows) c.close_attempt.ensures.copies_stay
+          (c.close_attempt.ensures.shows (freed from h) follows.inside.may.is_in.shows)
+          c.close_attempt.ensures.copies_stay
           (clears c)
           (record {
             lent = subst (λ (own : OwnState). IsLent pool own.section.hold) own_then c.roll_back.ensures.lent;
             others =
-                subst (λ (own : OwnState). LeavesOthers own.section.hold.owner old.pool pool) own_is c.roll_back.ensures.others;
+                subst (λ (own : OwnState). LeavesOthers own.section.hold.owner old.pool pool) own_is
+                c.roll_back.ensures.others;
           }));
       outcome = λ from follows.
           ap (λ turn. turn.outcome) (sym (rolls_turn from h section c.args.cause follows.rule_is));

@@ -36,7 +36,9 @@ pub returns-clause-old : goal.returns-clause-old
 returns-clause-old c from acts =
     let now = parts c.args.self.now in
     let h = c.args.hart.number in
-    c.plain_rule.ensures.old (freed from h) acts.may.is_in.shows acts.may.is_in.told (on_line now h from acts) (c.requires.action ∙ action_is now h from acts)
+    c.plain_rule.ensures.old (freed from h) acts.may.is_in.shows acts.may.is_in.told (on_line now h from acts)
+    (c.requires.action ∙ action_is now h from acts)
 
 pub plain_rule-requires-clause-lent : goal.plain_rule-requires-clause-lent
-plain_rule-requires-clause-lent c = lends (parts c.args.self.now) c.args.hart.number c.requires.some.from c.requires.some.acts
+plain_rule-requires-clause-lent c =
+    lends (parts c.args.self.now) c.args.hart.number c.requires.some.from c.requires.some.acts

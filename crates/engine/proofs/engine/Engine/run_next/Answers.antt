@@ -24,14 +24,16 @@ pub run_in_cache-requires-clause-no_armed : goal.run_in_cache-requires-clause-no
 run_in_cache-requires-clause-no_armed c =
     let acts = c.requires.some.acts in
     ap (λ p. (own_at p.harts c.args.hart.number).section.armed) (c.learn.ensures c.requires.some.from acts)
-    ∙ ap (λ section. section.armed) (learnt_section (parts c.args.self.now) c.args.hart.number c.requires.some.from acts)
+    ∙ ap (λ section. section.armed)
+    (learnt_section (parts c.args.self.now) c.args.hart.number c.requires.some.from acts)
     ∙ no_armed (parts c.args.self.now) c.args.hart.number c.requires.some.from acts
 
 pub run_in_cache-requires-clause-running : goal.run_in_cache-requires-clause-running
 run_in_cache-requires-clause-running c =
     let acts = c.requires.some.acts in
     ap (λ p. (present_at p.harts c.args.hart.number).status) (c.learn.ensures c.requires.some.from acts)
-    ∙ ap (λ section. section.marks.present.status) (learnt_section (parts c.args.self.now) c.args.hart.number c.requires.some.from acts)
+    ∙ ap (λ section. section.marks.present.status)
+    (learnt_section (parts c.args.self.now) c.args.hart.number c.requires.some.from acts)
     ∙ runs (parts c.args.self.now) c.args.hart.number c.requires.some.from acts
 
 pub run_in_cache-requires-clause-aligned : goal.run_in_cache-requires-clause-aligned
@@ -42,7 +44,8 @@ run_in_cache-requires-clause-permitted c =
     let acts = c.requires.some.acts in
     subst (λ p. lacking (permitted (cache_in p c.args.hart.number)) (footprint c.args.action) ≡ None)
     (sym (c.learn.ensures c.requires.some.from acts))
-    (lacks_nothing (parts c.args.self.now) c.args.hart.number c.requires.some.from c.args.action acts c.requires.action _
+    (lacks_nothing (parts c.args.self.now) c.args.hart.number c.requires.some.from c.args.action acts
+    c.requires.action _
     (c.requires.runs c.requires.some.from acts))
 
 pub take_effect-requires-clause-can_append : goal.take_effect-requires-clause-can_append
@@ -52,7 +55,8 @@ take_effect-requires-clause-can_append c =
     let from = c.requires.some.from in
     let acts = c.requires.some.acts in
     may_append old (parts c.run_in_cache.new.self) h from c.args.action acts
-    (subst (λ p. RanIn p (parts c.run_in_cache.new.self) h c.args.action) (c.learn.ensures from acts) c.run_in_cache.ensures) c.requires.in_place
+    (subst (λ p. RanIn p (parts c.run_in_cache.new.self) h c.args.action) (c.learn.ensures from acts)
+    c.run_in_cache.ensures) c.requires.in_place
     (lacks_nothing old h from c.args.action acts c.requires.action _ (c.requires.runs from acts))
 
 pub run_in_cache-requires-clause-lent : goal.run_in_cache-requires-clause-lent
@@ -64,8 +68,10 @@ run_in_cache-requires-clause-lent c =
 pub take_effect-requires-clause-lent : goal.take_effect-requires-clause-lent
 take_effect-requires-clause-lent c =
     let acts = c.requires.some.acts in
-    lent_mid (parts c.args.self.now) (parts c.run_in_cache.new.self) c.args.hart.number c.requires.some.from c.args.action acts
-    (subst (λ p. RanIn p (parts c.run_in_cache.new.self) c.args.hart.number c.args.action) (c.learn.ensures c.requires.some.from acts)
+    lent_mid (parts c.args.self.now) (parts c.run_in_cache.new.self) c.args.hart.number c.requires.some.from
+    c.args.action acts
+    (subst (λ p. RanIn p (parts c.run_in_cache.new.self) c.args.hart.number c.args.action)
+    (c.learn.ensures c.requires.some.from acts)
     c.run_in_cache.ensures)
 
 pub returns : goal.returns
@@ -79,7 +85,8 @@ returns c =
     record {
       ready =
           ready_ran old mid new h some.from action some.acts
-          (subst (λ p. RanIn p mid h action) (c.learn.ensures some.from some.acts) c.run_in_cache.ensures) c.requires.action
+          (subst (λ p. RanIn p mid h action) (c.learn.ensures some.from some.acts) c.run_in_cache.ensures)
+          c.requires.action
           c.requires.in_place
           (lacks_nothing old h some.from action some.acts c.requires.action _ (c.requires.runs some.from some.acts))
           c.requires.no_request c.take_effect.ensures;
@@ -91,5 +98,6 @@ returns c =
       outcome = λ from acts. ran_outcome from h _;
       memory_stays =
           ap (λ p. p.bus.copies.lines) c.take_effect.ensures
-          ∙ ap (λ p. p.bus.copies.lines) c.run_in_cache.ensures.new_is ∙ ap (λ p. p.bus.copies.lines) (c.learn.ensures some.from some.acts);
+          ∙ ap (λ p. p.bus.copies.lines) c.run_in_cache.ensures.new_is
+          ∙ ap (λ p. p.bus.copies.lines) (c.learn.ensures some.from some.acts);
     }

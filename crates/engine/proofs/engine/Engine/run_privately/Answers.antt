@@ -18,14 +18,17 @@ returns c =
     let cache = c.buffer.new.sets in
     let section = c.buffer.new.self.section in
     let inside : c.from.result < length old.harts = omega (arith, c.from.ensures, c.requires.may.there.hart_exists) in
-    let own_is = get_or_read _ _ _ inside c.index_mut.ensures.value (new_own no_hart 0 0) ∙ ap (own_at old.harts) c.from.ensures in
+    let own_is = get_or_read _ _ _ inside c.index_mut.ensures.value (new_own no_hart 0 0)
+    ∙ ap (own_at old.harts) c.from.ensures in
     record {
       pool = pool;
       cache = cache;
       section = section;
       over =
-          subst (λ (own : OwnState). RanOver old.pool pool (sets_in old h) cache own.section section c.args.action) own_is
-          (subst (λ sets. RanOver old.pool pool sets cache c.index_mut.result.now.section section c.args.action) c.sets_mut.ensures.value
+          subst (λ (own : OwnState). RanOver old.pool pool (sets_in old h) cache own.section section c.args.action)
+          own_is
+          (subst (λ sets. RanOver old.pool pool sets cache c.index_mut.result.now.section section c.args.action)
+          c.sets_mut.ensures.value
           (record {
             ran = c.buffer.ensures.ran;
             continued = c.buffer.ensures.continued;
@@ -37,5 +40,7 @@ returns c =
               beside = c.buffer.ensures.beside;
             };
           }));
-      new_is = put_own old h c.from.result pool cache c.buffer.new.self _ c.from.ensures (c.buffer.ensures.own ∙ ap (buffered_own section) own_is);
+      new_is =
+          put_own old h c.from.result pool cache c.buffer.new.self _ c.from.ensures
+          (c.buffer.ensures.own ∙ ap (buffered_own section) own_is);
     }

@@ -10,8 +10,13 @@ returns-then-finds_nothing c =
     let event = c.args.event in
     record {
       ready = c.requires.stands.ready;
-      state = λ from reached is. resting_state old from event (sym (c.finds_nothing.ensures from is) ∙ c.if-finds_nothing.true) is;
-      outcome = λ from reached is. resting_outcome from event (sym (c.finds_nothing.ensures from is) ∙ c.if-finds_nothing.true);
+      state =
+          λ from reached is. resting_state old from event
+          (sym (c.finds_nothing.ensures from is) ∙ c.if-finds_nothing.true) is;
+      outcome =
+          λ from reached is. resting_outcome from event
+          (sym (c.finds_nothing.ensures from is) ∙ c.if-finds_nothing.true);
       memory = λ from reached is.
-          resting_lines from event old.bus.copies.lines (sym (c.finds_nothing.ensures from is) ∙ c.if-finds_nothing.true);
+          resting_lines from event old.bus.copies.lines
+          (sym (c.finds_nothing.ensures from is) ∙ c.if-finds_nothing.true);
     }

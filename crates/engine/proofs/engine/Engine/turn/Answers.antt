@@ -27,7 +27,10 @@ returns-in-Step c =
     record {
       ready = step.ready;
       state = λ from reached is.
-          subst (λ t. IsInState (parts c.step_of.new.self) t.state) (sym (step_is from event c.in-Step.is)) (step.state from (reached, is));
-      outcome = λ from reached is. step.outcome from (reached, is) ∙ ap (λ t. t.outcome) (sym (step_is from event c.in-Step.is));
+          subst (λ t. IsInState (parts c.step_of.new.self) t.state) (sym (step_is from event c.in-Step.is))
+          (step.state from (reached, is));
+      outcome =
+          λ from reached is. step.outcome from (reached, is)
+          ∙ ap (λ t. t.outcome) (sym (step_is from event c.in-Step.is));
       memory = λ from reached is. step.memory_stays ∙ kept_lines from event _ (steps event.kind c.in-Step.is);
     }

@@ -5,5 +5,6 @@ use Rattle.hart_state.proofs.state.HartState.commit.Goals as goal
 
 pub returns-clause-beside : goal.returns-clause-beside
 returns-clause-beside c =
-    subst (λ own. LeavesBeside c.args.sets.now.owner own.section.hold.owner c.args.pool.now c.commit_action.new.pool) c.self.view_is
+    subst (λ own. LeavesBeside c.args.sets.now.owner own.section.hold.owner c.args.pool.now c.commit_action.new.pool)
+    c.self.view_is
     c.commit_action.ensures.beside

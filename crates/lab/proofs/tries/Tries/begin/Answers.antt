@@ -9,5 +9,6 @@ pub returns-in_ok-push : goal.returns-in_ok-push
 returns-in_ok-push c =
     c.in_ok-push.ensures
     ∙ ap (λ begun. c.args.self.now ++ begun)
-    (begun_is (state_of c.args.machine.now) c.args.place c.args.hart c.in-Some.live c.hart.result _ c.in-Some.ensures.exact
+    (begun_is (state_of c.args.machine.now) c.args.place c.args.hart c.in-Some.live c.hart.result _
+    c.in-Some.ensures.exact
     (c.hart.ensures ∙ ap (λ flat. view_of flat c.args.hart.number) (sym c.requires.one_run.committed)))

@@ -15,7 +15,8 @@ returns-in-Some c =
     get_or_read c.self.inside.list.items c.in-Some.place c.index_mut.result.now
     (c.self.invariant.there c.args.hart.number c.in-Some.place here) c.index_mut.ensures.value no_try in
     ap (λ (t : Try). set c.self.inside.list.items c.in-Some.place (record t { ended = c.args.ended })) was
-    ∙ one_ended c.self.inside.list.items c.self.inside.live c.args.hart.number c.self.invariant c.in-Some.place c.args.ended here
+    ∙ one_ended c.self.inside.list.items c.self.inside.live c.args.hart.number c.self.invariant c.in-Some.place
+    c.args.ended here
     ∙ ap (map (ended_for c.args.hart.number c.args.ended)) c.self.view_is
 
 pub returns-in_default : goal.returns-in_default

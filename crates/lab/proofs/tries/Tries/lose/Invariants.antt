@@ -6,4 +6,5 @@ use Rattle.machine.specs.Story.{state_of}
 
 abbrev pub invariant-loop-number : goal.invariant-loop-number
 invariant-loop-number l =
-    l.self ≡ map (lost_below l.place (slice_index l.ran) (state_of l.machine) (beaten_by l.losers) l.number) l.initial.self
+    l.self ≡ map (lost_below l.place (slice_index l.ran) (state_of l.machine) (beaten_by l.losers) l.number)
+    l.initial.self

@@ -10,15 +10,29 @@ pub returns-in_ok-begin-in-Began : goal.returns-in_ok-begin-in-Began
 returns-in_ok-begin-in-Began c =
     c.in_ok-begin-in-Began.ensures
     ∙ noted_still
-    (record { place = c.args.place; ran = slice_index c.args.ran.now; event = c.args.event; outcome = Began; after = state_of c.args.machine.now })
+    (record {
+      place = c.args.place;
+      ran = slice_index c.args.ran.now;
+      event = c.args.event;
+      outcome = Began;
+      after = state_of c.args.machine.now;
+    })
     (λ h. refl) c.args.self.now (λ h. refl)
     ∙ ap (λ outcome. noted
-    (record { place = c.args.place; ran = slice_index c.args.ran.now; event = c.args.event; outcome = outcome; after = state_of c.args.machine.now })
+    (record {
+      place = c.args.place;
+      ran = slice_index c.args.ran.now;
+      event = c.args.event;
+      outcome = outcome;
+      after = state_of c.args.machine.now;
+    })
     c.args.self.now) (sym c.in-Began.is)
 
 pub returns-in-Idle : goal.returns-in-Idle
 returns-in-Idle c =
-    let nothing = noted_nothing c.args.place (slice_index c.args.ran.now) c.args.event (state_of c.args.machine.now) c.args.self.now
+    let nothing =
+    noted_nothing c.args.place (slice_index c.args.ran.now) c.args.event
+    (state_of c.args.machine.now) c.args.self.now
     c.args.outcome in
     elim c.in-Idle.is [
       | inl e ↦ nothing _ e (λ h. refl) (λ h. refl) (λ begun. refl)

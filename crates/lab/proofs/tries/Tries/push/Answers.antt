@@ -10,7 +10,8 @@ invariant_of-self-2 c =
     let items = c.self.inside.list.items in
     let same : length items ≡ vec_len c.self.inside.list = omega (arith, c.self.inside.list.ok.0) in
     let small = c.args.begun.hart.small in
-    let At : ℕ → Type 0 = λ n. Tracks (items ++ c.args.begun ∷ []) (set c.self.inside.live c.args.begun.hart.number (Some n)) in
+    let At : ℕ → Type 0 =
+    λ n. Tracks (items ++ c.args.begun ∷ []) (set c.self.inside.live c.args.begun.hart.number (Some n)) in
     rw (c.in_ok-push.ensures.items, c.from.ensures, c.len-place.ensures)
     (subst At same
     (tracks_push items c.self.inside.live c.args.begun c.self.invariant c.requires.live

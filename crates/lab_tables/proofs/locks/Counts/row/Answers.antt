@@ -14,6 +14,7 @@ returns-clause-row c =
           (subst (λ lists. ShowsEach lists c.args.acquire c.each_of.result) c.deref.ensures.value c.each_of.ensures);
       in_vain = c.of-2.ensures ∙ are.in_vain c.args.acquire;
       plain =
-          runs_same _ _ _ _ _ _ _ _ (c.of-3.ensures ∙ are.plain_mode c.args.acquire) (c.of-4.ensures ∙ are.fallback c.args.acquire)
+          runs_same _ _ _ _ _ _ _ _ (c.of-3.ensures ∙ are.plain_mode c.args.acquire)
+          (c.of-4.ensures ∙ are.fallback c.args.acquire)
           (c.of-5.ensures ∙ are.confidence c.args.acquire) (c.of-6.ensures ∙ are.no_candidate c.args.acquire);
     }

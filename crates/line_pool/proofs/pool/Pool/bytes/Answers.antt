@@ -24,7 +24,8 @@ index-requires c =
     omega (
       arith,
       i.lines.ok.0,
-      line_within i.shares.items i.lines.items c.self.invariant c.args.self.now c.self.view_is slot c.requires c.index_of.result
+      line_within i.shares.items i.lines.items c.self.invariant c.args.self.now c.self.view_is slot c.requires
+          c.index_of.result
           (c.index_of.ensures ∙ ap (λ shares. index_in shares slot) c.deref.ensures.value),
     )
 
@@ -32,5 +33,6 @@ pub returns : goal.returns
 returns c =
     let i = c.self.inside in
     let slot = c.args.slot.now in
-    line_read i.shares.items i.lines.items c.self.invariant c.args.self.now c.self.view_is slot c.requires c.index_of.result
+    line_read i.shares.items i.lines.items c.self.invariant c.args.self.now c.self.view_is slot c.requires
+    c.index_of.result
     (c.index_of.ensures ∙ ap (λ shares. index_in shares slot) c.deref.ensures.value) c.index.result.now c.index.ensures

@@ -24,7 +24,8 @@ index_mut-requires c =
     omega (
       arith,
       i.lines.ok.0,
-      line_within i.shares.items i.lines.items c.self.invariant c.args.self.now c.self.view_is slot c.requires c.index_of-index.result
+      line_within i.shares.items i.lines.items c.self.invariant c.args.self.now c.self.view_is slot c.requires
+          c.index_of-index.result
           (c.index_of-index.ensures ∙ ap (λ shares. index_in shares slot) c.deref.ensures.value),
     )
 
@@ -34,11 +35,19 @@ returns c =
     let slot = c.args.slot.now in
     let at = c.index_of-index.ensures ∙ ap (λ shares. index_in shares slot) c.deref.ensures.value in
     let index = c.index_of-index.result in (
-      (refl, line_lent i.shares.items i.lines.items c.self.invariant c.args.self.now c.self.view_is slot c.requires index at),
+      (
+        refl,
+        line_lent i.shares.items i.lines.items c.self.invariant c.args.self.now c.self.view_is slot
+            c.requires index at,
+      ),
       record {
         lends = tt;
-        value = line_read i.shares.items i.lines.items c.self.invariant c.args.self.now c.self.view_is slot c.requires index at
+        value =
+            line_read i.shares.items i.lines.items c.self.invariant c.args.self.now c.self.view_is slot
+            c.requires index at
             c.index_mut.result.now c.index_mut.ensures.value;
-        written = line_written i.shares.items i.lines.items c.self.invariant c.args.self.now c.self.view_is slot c.requires index at;
+        written =
+            line_written i.shares.items i.lines.items c.self.invariant c.args.self.now c.self.view_is slot
+            c.requires index at;
       },
     )

@@ -16,7 +16,8 @@ loop-quota-preserved c =
     let so_far = c.loop-quota.invariant in
     record {
       made =
-          next_full all index total c.loop-quota.shares.items c.push.new.self.items c.in_ok-full.field-0 c.loop-quota-test.true
+          next_full all index total c.loop-quota.shares.items c.push.new.self.items c.in_ok-full.field-0
+          c.loop-quota-test.true
           so_far.made so_far.total
           c.in_ok-full.ensures c.in_ok-push.ensures.items;
       total = next_total all index total c.from.result c.loop-quota-test.true so_far.total c.from.ensures;

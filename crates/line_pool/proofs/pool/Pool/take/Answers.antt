@@ -10,7 +10,8 @@ pub invariant_of-self : goal.invariant_of-self
 invariant_of-self c =
     let i = c.self.inside in
     same_stands i.shares.items i.lines.items c.self.invariant c.from.result c.index_mut-share.result.now c.take.new.self
-    (owner_there i.shares.items i.lines.items c.args.self.now c.args.owner c.from.result c.self.view_is c.requires c.from.ensures)
+    (owner_there i.shares.items i.lines.items c.args.self.now c.args.owner c.from.result c.self.view_is
+    c.requires c.from.ensures)
     c.index_mut-share.ensures.value c.in_err-place.ensures.taken.beside c.in_err-place.ensures.taken.free
 
 pub returns-in_err-place-clause-unchanged : goal.returns-in_err-place-clause-unchanged
@@ -20,15 +21,20 @@ returns-in_err-place-clause-unchanged c =
     let P : Option Slot → Type 0 = λ taken. IfNone taken (pool ≡ c.args.self.now) in
     subst P (sym c.from_residual.ensures)
     (same_pool i.shares.items i.lines.items c.self.invariant c.from.result c.index_mut-share.result.now c.take.new.self
-    (owner_there i.shares.items i.lines.items c.args.self.now c.args.owner c.from.result c.self.view_is c.requires c.from.ensures)
-    c.index_mut-share.ensures.value c.in_err-place.ensures.taken.beside c.in_err-place.ensures.taken.free ∙ c.self.view_is)
+    (owner_there i.shares.items i.lines.items c.args.self.now c.args.owner c.from.result c.self.view_is
+    c.requires c.from.ensures)
+    c.index_mut-share.ensures.value c.in_err-place.ensures.taken.beside c.in_err-place.ensures.taken.free
+    ∙ c.self.view_is)
 
 pub invariant_of-self-2 : goal.invariant_of-self-2
 invariant_of-self-2 c =
     let i = c.self.inside in
-    taken_stands i.shares.items i.lines.items c.self.invariant c.from.result c.index_mut-share.result.now c.take.new.self
-    (owner_there i.shares.items i.lines.items c.args.self.now c.args.owner c.from.result c.self.view_is c.requires c.from.ensures)
-    c.index_mut-share.ensures.value c.in_ok-place.ensures.taken.beside c.in_ok-place.place c.in_ok-place.ensures.taken.free
+    taken_stands i.shares.items i.lines.items c.self.invariant c.from.result
+    c.index_mut-share.result.now c.take.new.self
+    (owner_there i.shares.items i.lines.items c.args.self.now c.args.owner c.from.result c.self.view_is
+    c.requires c.from.ensures)
+    c.index_mut-share.ensures.value c.in_ok-place.ensures.taken.beside c.in_ok-place.place
+    c.in_ok-place.ensures.taken.free
 
 pub returns-clause-taken : goal.returns-clause-taken
 returns-clause-taken c =
@@ -36,9 +42,13 @@ returns-clause-taken c =
     let new = c.take.new.self in
     let pool : Pooled = shown_pool (slice_set i.shares.items c.from.result new) i.lines.items in
     let P : ℕ → Type 0 =
-    λ owner. IsTaken (shown_pool i.shares.items i.lines.items) pool owner (record { owner = owner; place = c.in_ok-place.place }) in
-    let Q : Pooled → Type 0 = λ old. IsTaken old pool c.args.owner (record { owner = c.args.owner; place = c.in_ok-place.place }) in
+    λ owner. IsTaken (shown_pool i.shares.items i.lines.items) pool owner
+    (record { owner = owner; place = c.in_ok-place.place }) in
+    let Q : Pooled → Type 0 =
+    λ old. IsTaken old pool c.args.owner (record { owner = c.args.owner; place = c.in_ok-place.place }) in
     subst Q c.self.view_is (subst P c.from.ensures
     (taken i.shares.items i.lines.items c.self.invariant c.from.result c.index_mut-share.result.now new
-    (owner_there i.shares.items i.lines.items c.args.self.now c.args.owner c.from.result c.self.view_is c.requires c.from.ensures)
-    c.index_mut-share.ensures.value c.in_ok-place.ensures.taken.beside c.in_ok-place.place c.in_ok-place.ensures.taken.free))
+    (owner_there i.shares.items i.lines.items c.args.self.now c.args.owner c.from.result c.self.view_is
+    c.requires c.from.ensures)
+    c.index_mut-share.ensures.value c.in_ok-place.ensures.taken.beside c.in_ok-place.place
+    c.in_ok-place.ensures.taken.free))

@@ -10,10 +10,12 @@ section_state-requires c = hart_there _ _ _ _ _ c.self.invariant c.self.view_is 
 
 pub returns-clause-exact : goal.returns-clause-exact
 returns-clause-exact c =
-    c.armed.ensures.exact ∙ c.section_state.ensures.armed (state_of c.args.self.now) (now_in _ _ _ _ c.self.invariant c.self.view_is)
+    c.armed.ensures.exact ∙ c.section_state.ensures.armed (state_of c.args.self.now)
+    (now_in _ _ _ _ c.self.invariant c.self.view_is)
 
 pub returns-clause-alone : goal.returns-clause-alone
-returns-clause-alone c some = armed_alone c.args.self.now c.args.hart.number c.armed.result (returns-clause-exact c) some
+returns-clause-alone c some =
+    armed_alone c.args.self.now c.args.hart.number c.armed.result (returns-clause-exact c) some
 
 pub returns-clause-runs : goal.returns-clause-runs
 returns-clause-runs c = λ armed is. runs_armed _ _ _ _ _ armed c.self.invariant c.self.view_is is

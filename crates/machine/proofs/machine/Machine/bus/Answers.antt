@@ -16,7 +16,8 @@ returns-clause-ready c = subst IsReady (sym c.bus.ensures) c.self.invariant.read
 
 pub returns-clause-shows : goal.returns-clause-shows
 returns-clause-shows c =
-    subst (λ bus. Shows bus (state_of c.args.self.now)) (sym c.bus.ensures) (now_in _ _ _ _ c.self.invariant c.self.view_is).shows
+    subst (λ bus. Shows bus (state_of c.args.self.now)) (sym c.bus.ensures)
+    (now_in _ _ _ _ c.self.invariant c.self.view_is).shows
 
 pub returns-clause-memory : goal.returns-clause-memory
 returns-clause-memory c = ap (λ bus. bus.copies.lines) c.bus.ensures ∙ now_lines _ _ _ _ c.self.invariant c.self.view_is

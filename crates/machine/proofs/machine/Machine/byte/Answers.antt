@@ -20,8 +20,10 @@ returns-clause-none_exactly_outside c =
 pub returns-clause-exact : goal.returns-clause-exact
 returns-clause-exact c =
     let state = state_of c.args.self.now in
-    let Of : FlatState → Type 0 = λ flat. IfSome c.byte.result (λ byte. byte ≡ byte_in c.args.self.now.program.base flat.bytes c.args.address) in
-    let From : ℕ → Type 0 = λ base. IfSome c.byte.result (λ byte. byte ≡ byte_in base state.committed.bytes c.args.address) in
+    let Of : FlatState → Type 0 =
+    λ flat. IfSome c.byte.result (λ byte. byte ≡ byte_in c.args.self.now.program.base flat.bytes c.args.address) in
+    let From : ℕ → Type 0 =
+    λ base. IfSome c.byte.result (λ byte. byte ≡ byte_in base state.committed.bytes c.args.address) in
     subst Of (reached_committed _ _ _ _ c.self.invariant c.self.view_is)
     (subst From (same_base _ _ _ _ c.self.invariant c.self.view_is)
     (c.byte.ensures.committed state (now_in _ _ _ _ c.self.invariant c.self.view_is)))

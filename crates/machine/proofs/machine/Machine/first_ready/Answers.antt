@@ -6,7 +6,8 @@ use Rattle.machine.specs.Story.{state_of}
 
 pub returns-then-is_some-clause-first : goal.returns-then-is_some-clause-first
 returns-then-is_some-clause-first c =
-    first_of (state_of c.args.self.now) c.loop-number.number c.ready_of-found.result (omega (arith, c.loop-number-test.true, c.requires.all))
+    first_of (state_of c.args.self.now) c.loop-number.number c.ready_of-found.result
+    (omega (arith, c.loop-number-test.true, c.requires.all))
     c.loop-number.invariant c.ready_of-found.ensures.first (sym c.is_some.ensures ∙ c.if-is_some.true)
 
 pub loop-number-preserved : goal.loop-number-preserved
@@ -17,5 +18,6 @@ loop-number-preserved c =
 
 pub returns-clause-first : goal.returns-clause-first
 returns-clause-first c =
-    sym (none_left (state_of c.args.self.now) c.loop-number.number (omega (arith, c.loop-number-test.false, c.requires.all))
+    sym (none_left (state_of c.args.self.now) c.loop-number.number
+    (omega (arith, c.loop-number-test.false, c.requires.all))
     c.loop-number.invariant)

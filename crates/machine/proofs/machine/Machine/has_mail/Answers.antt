@@ -10,7 +10,8 @@ use Rattle.engine.specs.Shows.{Shows}
 pub has_mail-requires : goal.has_mail-requires
 has_mail-requires c =
     subst (λ bus. c.args.hart.number < length bus.agents) (sym c.bus.ensures)
-    (hart_exists _ _ (parts_stand _ _ _ c.self.invariant) (hart_there _ _ _ _ _ c.self.invariant c.self.view_is c.requires))
+    (hart_exists _ _ (parts_stand _ _ _ c.self.invariant)
+    (hart_there _ _ _ _ _ c.self.invariant c.self.view_is c.requires))
 
 pub returns : goal.returns
 returns c =

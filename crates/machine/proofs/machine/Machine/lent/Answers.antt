@@ -17,15 +17,18 @@ returns-clause-ready c = subst IsReady (sym c.bus.ensures) c.self.invariant.read
 
 pub returns-clause-shows : goal.returns-clause-shows
 returns-clause-shows c =
-    subst (λ bus. Shows bus (state_of c.args.self.now)) (sym c.bus.ensures) (now_in _ _ _ _ c.self.invariant c.self.view_is).shows
+    subst (λ bus. Shows bus (state_of c.args.self.now)) (sym c.bus.ensures)
+    (now_in _ _ _ _ c.self.invariant c.self.view_is).shows
 
 pub returns-clause-told : goal.returns-clause-told
 returns-clause-told c =
     let is_in = now_in _ _ _ _ c.self.invariant c.self.view_is in
     let state = state_of c.args.self.now in
-    subst (λ flat. Tells c.pool.result.now (bus_state c.bus.result.now) (line_of flat)) (reached_committed _ _ _ _ c.self.invariant c.self.view_is)
+    subst (λ flat. Tells c.pool.result.now (bus_state c.bus.result.now) (line_of flat))
+    (reached_committed _ _ _ _ c.self.invariant c.self.view_is)
     (subst (λ pool. Tells pool (bus_state c.bus.result.now) (line_of state.committed)) (sym c.pool.ensures)
-    (subst (λ bus. Tells (parts c.self.inside.engine).pool bus (line_of state.committed)) (sym c.bus.ensures) is_in.told))
+    (subst (λ bus. Tells (parts c.self.inside.engine).pool bus (line_of state.committed))
+    (sym c.bus.ensures) is_in.told))
 
 pub returns-clause-section : goal.returns-clause-section
 returns-clause-section c =
@@ -39,6 +42,7 @@ pub returns-clause-run : goal.returns-clause-run
 returns-clause-run c section live =
     let state = state_of c.args.self.now in
     let is_in = now_in _ _ _ _ c.self.invariant c.self.view_is in
-    subst (λ pool. TellsRun pool state (committed c.args.self.now) c.args.hart.number section c.section_state.result.now) (sym c.pool.ensures)
+    subst (λ pool. TellsRun pool state (committed c.args.self.now) c.args.hart.number section
+    c.section_state.result.now) (sym c.pool.ensures)
     (tells_run _ _ _ _ _ _ section _ c.self.invariant c.self.view_is (c.section_state.ensures.keeps state is_in)
     (sym (c.section_state.ensures.live state is_in) ∙ live))

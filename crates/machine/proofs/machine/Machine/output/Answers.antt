@@ -13,4 +13,5 @@ pub returns-clause-within_limit : goal.returns-clause-within_limit
 returns-clause-within_limit c =
     subst (λ output. length output ≤ output_limit)
     ((now_in _ _ _ _ c.self.invariant c.self.view_is).output
-    ∙ ap (λ state. state.output) (reached_committed _ _ _ _ c.self.invariant c.self.view_is)) c.output.ensures.within_limit
+    ∙ ap (λ state. state.output) (reached_committed _ _ _ _ c.self.invariant c.self.view_is))
+    c.output.ensures.within_limit

@@ -4,7 +4,8 @@ use Rattle.machine.proofs.Readiness.{harts_are, not_stuck}
 use Rattle.machine.proofs.machine.Machine.ready.Goals as goal
 
 pub first_ready-requires-clause-all : goal.first_ready-requires-clause-all
-first_ready-requires-clause-all c = ap (λ config. config.harts) c.config-harts.ensures.exact ∙ harts_are c.args.self.now c.config-harts.ensures.one_hart_each
+first_ready-requires-clause-all c = ap (λ config. config.harts) c.config-harts.ensures.exact
+    ∙ harts_are c.args.self.now c.config-harts.ensures.one_hart_each
 
 pub returns-clause-none_exactly_where_over : goal.returns-clause-none_exactly_where_over
 returns-clause-none_exactly_where_over c =

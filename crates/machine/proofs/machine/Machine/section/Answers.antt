@@ -10,7 +10,8 @@ section_state-requires c = hart_there _ _ _ _ _ c.self.invariant c.self.view_is 
 
 pub returns-clause-exact : goal.returns-clause-exact
 returns-clause-exact c =
-    c.live.ensures.exact ∙ c.section_state.ensures.live (state_of c.args.self.now) (now_in _ _ _ _ c.self.invariant c.self.view_is)
+    c.live.ensures.exact ∙ c.section_state.ensures.live (state_of c.args.self.now)
+    (now_in _ _ _ _ c.self.invariant c.self.view_is)
 
 pub returns-clause-covered : goal.returns-clause-covered
 returns-clause-covered c = λ section live. runs_covered _ _ _ _ _ section c.self.invariant c.self.view_is live

@@ -10,7 +10,8 @@ use Rattle.engine.specs.Shows.{IsReady, Shows}
 pub serves-requires-clause-hart_exists : goal.serves-requires-clause-hart_exists
 serves-requires-clause-hart_exists c =
     subst (λ bus. c.args.hart.number < length bus.agents) (sym c.bus.ensures)
-    (hart_exists _ _ (parts_stand _ _ _ c.self.invariant) (hart_there _ _ _ _ _ c.self.invariant c.self.view_is c.requires))
+    (hart_exists _ _ (parts_stand _ _ _ c.self.invariant)
+    (hart_there _ _ _ _ _ c.self.invariant c.self.view_is c.requires))
 
 pub serves-requires-clause-ready : goal.serves-requires-clause-ready
 serves-requires-clause-ready c = subst IsReady (sym c.bus.ensures) c.self.invariant.ready

@@ -25,7 +25,8 @@ returns-clause-one_run c = one_run _ _ _ _ (invariant_of-self c) refl
 pub returns-clause-goes_on : goal.returns-clause-goes_on
 returns-clause-goes_on c =
     rw c.push.ensures
-    (told_more _ _ _ _ _ c.self.invariant c.step-outcome.ensures.outcome ∙ ap (λ story. continued story (c.args.event ∷ [])) c.self.view_is)
+    (told_more _ _ _ _ _ c.self.invariant c.step-outcome.ensures.outcome
+    ∙ ap (λ story. continued story (c.args.event ∷ [])) c.self.view_is)
 
 pub returns-clause-outcome : goal.returns-clause-outcome
 returns-clause-outcome c =
@@ -54,7 +55,8 @@ returns-clause-stamps_stay c =
 
 pub returns-clause-releases_commit : goal.returns-clause-releases_commit
 returns-clause-releases_commit c =
-    (kept_by _ _ _ _ _ _ _ c.self.invariant c.self.view_is (returns-clause-goes_on c) (returns-clause-outcome c)).release
+    (kept_by _ _ _ _ _ _ _ c.self.invariant c.self.view_is (returns-clause-goes_on c)
+    (returns-clause-outcome c)).release
 
 pub returns-clause-others_are_untouched : goal.returns-clause-others_are_untouched
 returns-clause-others_are_untouched c =

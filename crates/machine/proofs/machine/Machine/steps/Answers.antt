@@ -6,7 +6,8 @@ use Rattle.machine.specs.Story.{state_of}
 use Rattle.el_base.proofs.Laws.Cases.{true_false}
 
 pub returns-then-runs : goal.returns-then-runs
-returns-then-runs c = step_goes (state_of c.args.self.now) c.args.hart _ (c.runs.ensures.0 c.if-runs.true) c.waits.ensures
+returns-then-runs c =
+    step_goes (state_of c.args.self.now) c.args.hart _ (c.runs.ensures.0 c.if-runs.true) c.waits.ensures
 
 pub returns-else-runs : goal.returns-else-runs
 returns-else-runs c =

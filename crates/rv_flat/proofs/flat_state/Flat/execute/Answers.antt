@@ -31,5 +31,8 @@ returns c =
     rw (c.store.ensures, c.append.ensures, ← c.self.view_is)
     (applied_in_turn state c.args.place c.next_action-action.result c.perform-transfers.new.view
     c.perform-transfers.result.store c.perform-transfers.result.append action
-    (rw (← old)
-    (c.perform-transfers.ensures.view byte number, c.perform-transfers.ensures.store byte number, c.perform-transfers.ensures.append byte number)))
+    (rw (← old) (
+      c.perform-transfers.ensures.view byte number,
+      c.perform-transfers.ensures.store byte number,
+      c.perform-transfers.ensures.append byte number,
+    )))

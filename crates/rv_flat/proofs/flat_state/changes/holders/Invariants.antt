@@ -7,6 +7,7 @@ use Rattle.rv_flat.proofs.flat_state.changes.holders.Given as goal
 
 abbrev pub invariant-loop-place : goal.invariant-loop-place
 invariant-loop-place l = record {
-  so_far : (hart : ℕ) → hart < l.place → has_hart l.holders hart ≡ is_some (slice_index_or l.harts hart no_hart).reserved;
+  so_far : (hart : ℕ) → hart < l.place →
+      has_hart l.holders hart ≡ is_some (slice_index_or l.harts hart no_hart).reserved;
   no_other : (hart : ℕ) → l.place ≤ hart → has_hart l.holders hart ≡ false;
 }

@@ -14,7 +14,9 @@ invariant_of-self c =
     let port = c.args.self.now in
     record {
       aligned = port.aligned;
-      lent = both_by_hold port.pool.now c.put.new.pool port.sets.now port.hold.now port.lent c.put.ensures.others c.put.new.self
+      lent =
+          both_by_hold port.pool.now c.put.new.pool port.sets.now port.hold.now port.lent
+          c.put.ensures.others c.put.new.self
           c.put.ensures.lent c.put.ensures.owner;
     }
 
@@ -27,6 +29,8 @@ returns-clause-bytes c at =
     let put = c.in-Ok.ensures.put in
     let same = cache_stays port.pool.now c.put.new.pool port.sets.now port.hold.now port.lent c.put.ensures.others in
     ap (λ cached. port_byte after.entries port.word port.new cached at) same
-    ∙ shown_after_put hold after _ _ _ (stored (cached_byte cache) port.word 4 port.new) c.args.address c.args.len c.args.value
+    ∙ shown_after_put hold after _ _ _ (stored (cached_byte cache) port.word 4 port.new) c.args.address
+    c.args.len c.args.value
     put (omega (arith, c.line_of.ensures))
-    (low_part c.low_bytes-bytes.result c.args.len c.args.value c.low_bytes-bytes.ensures.four c.requires.size c.low_bytes-bytes.ensures.each) at
+    (low_part c.low_bytes-bytes.result c.args.len c.args.value c.low_bytes-bytes.ensures.four c.requires.size
+    c.low_bytes-bytes.ensures.each) at

@@ -8,7 +8,8 @@ use Rattle.write_hold.specs.Slotted as holds
 use Rattle.section_ctl.proofs.port.SectionPortPort.word.Goals as goal
 
 lies_then : (c : goal.After-read_over) →
-    LiesUnder c.args.self.now.word c.args.self.now.new (caches.lent c.args.self.now.pool.now c.args.self.now.sets.now) c.args.address c.with_word.result
+    LiesUnder c.args.self.now.word c.args.self.now.new (caches.lent c.args.self.now.pool.now c.args.self.now.sets.now)
+    c.args.address c.with_word.result
 lies_then c =
     let port = c.args.self.now in
     let cache : Cached = caches.lent port.pool.now port.sets.now in
@@ -35,12 +36,14 @@ returns-then-address-self-clause-bytes c =
     c.requires.aligned (lies_then c) c.read_over.ensures.bytes
 
 lies_else : (c : goal.After-read_over-else-address-self) →
-    LiesUnder c.args.self.now.word c.args.self.now.new (caches.lent c.args.self.now.pool.now c.args.self.now.sets.now) c.args.address c.bytes-under.result.now
+    LiesUnder c.args.self.now.word c.args.self.now.new (caches.lent c.args.self.now.pool.now c.args.self.now.sets.now)
+    c.args.address c.bytes-under.result.now
 lies_else c =
     let port = c.args.self.now in
     let cache : Cached = caches.lent port.pool.now port.sets.now in
     let hold = holds.lent port.pool.now port.hold.now in
-    lies_in_cache port.word port.new cache c.args.address c.bytes-under.result.now c.requires.aligned port.aligned c.if-address-self.false
+    lies_in_cache port.word port.new cache c.args.address c.bytes-under.result.now c.requires.aligned port.aligned
+    c.if-address-self.false
     (c.bytes-under.ensures ∙ ap (bytes_of cache) c.line_of-line.ensures)
 
 pub returns-else-address-self-clause-value : goal.returns-else-address-self-clause-value
@@ -49,7 +52,8 @@ returns-else-address-self-clause-value c =
     let cache : Cached = caches.lent port.pool.now port.sets.now in
     let hold = holds.lent port.pool.now port.hold.now in
     c.read_over-else-address-self.ensures.value
-    ∙ word_shown_of hold.entries port.word port.new cache c.args.address c.bytes-under.result.now _ c.line_of-line.ensures
+    ∙ word_shown_of hold.entries port.word port.new cache c.args.address c.bytes-under.result.now _
+    c.line_of-line.ensures
     c.requires.aligned (lies_else c)
 
 pub returns-else-address-self-clause-bytes : goal.returns-else-address-self-clause-bytes

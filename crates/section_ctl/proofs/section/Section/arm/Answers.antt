@@ -9,11 +9,15 @@ use Rattle.section_ctl.proofs.section.Section.arm.Goals as goal
 
 pub invariant_of-self : goal.invariant_of-self
 invariant_of-self c =
-    let view = armed_view c.args.rd c.args.word c.args.old c.mark.new.self.present c.perform.new.view c.ranges.old.fits c.perform.ensures.view in
+    let view =
+    armed_view c.args.rd c.args.word c.args.old c.mark.new.self.present c.perform.new.view c.ranges.old.fits
+    c.perform.ensures.view in
     let none = ap (λ state. state.live) c.self.view_is ∙ c.requires.none in
     record {
       mark = subst (λ m. IsSome m.mark) (sym c.mark.ensures) refl;
-      running = ap (λ v. v.status) view ∙ ap (λ m. m.present.status) c.mark.ensures ∙ ap (λ state. state.marks.present.status) c.self.view_is
+      running =
+          ap (λ v. v.status) view ∙ ap (λ m. m.present.status) c.mark.ensures
+          ∙ ap (λ state. state.marks.present.status) c.self.view_is
           ∙ c.requires.running;
       aligned = c.requires.aligned;
       empty = nothing_held c.self.inside.marks c.self.inside.hold _ c.self.invariant none;
@@ -22,7 +26,9 @@ invariant_of-self c =
 
 pub returns-clause-armed : goal.returns-clause-armed
 returns-clause-armed c =
-    let view = armed_view c.args.rd c.args.word c.args.old c.mark.new.self.present c.perform.new.view c.ranges.old.fits c.perform.ensures.view in
+    let view =
+    armed_view c.args.rd c.args.word c.args.old c.mark.new.self.present c.perform.new.view c.ranges.old.fits
+    c.perform.ensures.view in
     let present = view ∙ ap (λ m. reserved_view m.present c.args.rd.number c.args.word c.args.old) c.mark.ensures in
     let mark = ap (λ m. m.mark) c.mark.ensures in
     (λ k. record {

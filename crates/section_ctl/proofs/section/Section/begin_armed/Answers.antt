@@ -15,7 +15,8 @@ armed c = subst (SectionStands c.self.inside.marks c.self.inside.hold) c.in-Arme
 
 view : (c : goal.After-self-1) → c.perform.new.view ≡ release_of (put_of c.self.inside.marks.present c.args.rd.number 0)
 view c =
-    elided_view c.args.rd c.in-Armed.reserved.armed.word c.args.new c.self.inside.marks.present c.perform.new.view c.perform.ensures.view
+    elided_view c.args.rd c.in-Armed.reserved.armed.word c.args.new c.self.inside.marks.present c.perform.new.view
+    c.perform.ensures.view
 
 shown : (c : goal.After-self-1) → c.args.self.now.armed ≡ Some (reserved_of c.in-Armed.reserved)
 shown c = ap (λ state. state.armed) (sym c.self.view_is) ∙ ap armed_in c.in-Armed.is
@@ -34,7 +35,13 @@ begun c =
     (λ k. record {
       marks = record { present = view c k; mark = c.self.inside.marks.mark };
       hold = c.self.inside.hold;
-      live = Some (record { count = reserved.armed.count + 1; word = reserved.armed.word; old = reserved.old; new = c.args.new });
+      live =
+          Some (record {
+            count = reserved.armed.count + 1;
+            word = reserved.armed.word;
+            old = reserved.old;
+            new = c.args.new;
+          });
       armed = None;
     })
     ∙ ap (λ state. elided_state state (reserved_of reserved) c.args.new c.args.rd.number) c.self.view_is
@@ -57,5 +64,6 @@ returns-clause-begun c =
 pub returns-clause-shows : goal.returns-clause-shows
 returns-clause-shows c =
     let empty = ap (λ state. state.hold.entries) (sym c.self.view_is) ∙ (armed c).empty in
-    at_some c.args.self.now.armed (reserved_of c.in-Armed.reserved) (λ reserved. ElidesRun c.args.self.now _ reserved c.args.new c.args.rd) (shown c)
+    at_some c.args.self.now.armed (reserved_of c.in-Armed.reserved)
+    (λ reserved. ElidesRun c.args.self.now _ reserved c.args.new c.args.rd) (shown c)
     (elides_run c.args.self.now _ (reserved_of c.in-Armed.reserved) c.args.new c.args.rd empty (begun c))

@@ -14,13 +14,16 @@ pub commit_action-requires-clause-release : goal.commit_action-requires-clause-r
 commit_action-requires-clause-release c =
     let live = c.in-Live.live in
     let shown = ap (λ state. state.live) (sym c.self.view_is) ∙ ap live_in c.in-Live.is in
-    at_some c.args.self.now.live (section_of live) (λ section. IsReleaseAction section.word section.old c.release_by.result) shown
-    (subst (IsReleaseAction live.word live.old) (sym c.release_by.ensures) (releases_by (decoded c.args.code) live.word live.old))
+    at_some c.args.self.now.live (section_of live)
+    (λ section. IsReleaseAction section.word section.old c.release_by.result) shown
+    (subst (IsReleaseAction live.word live.old) (sym c.release_by.ensures)
+    (releases_by (decoded c.args.code) live.word live.old))
 
 live : (c : goal.After-commit_action) → c.args.self.now.live ≡ Some (section_of c.in-Live.live)
 live c = ap (λ state. state.live) (sym c.self.view_is) ∙ ap live_in c.in-Live.is
 
-by_code : (c : goal.After-commit_action) → HasReleasedBy c.args.self.now c.commit_action.new.self (section_of c.in-Live.live) (decoded c.args.code)
+by_code : (c : goal.After-commit_action) →
+    HasReleasedBy c.args.self.now c.commit_action.new.self (section_of c.in-Live.live) (decoded c.args.code)
 by_code c =
     let section = section_of c.in-Live.live in
     let old = c.args.self.now in
@@ -34,7 +37,8 @@ by_code c =
 pub returns-clause-released : goal.returns-clause-released
 returns-clause-released c =
     at_some c.args.self.now.live (section_of c.in-Live.live)
-    (λ section. HasReleasedBy c.args.self.now c.commit_action.new.self section (decoded c.args.code)) (live c) (by_code c)
+    (λ section. HasReleasedBy c.args.self.now c.commit_action.new.self section (decoded c.args.code))
+    (live c) (by_code c)
 
 pub returns-clause-shows : goal.returns-clause-shows
 returns-clause-shows c =

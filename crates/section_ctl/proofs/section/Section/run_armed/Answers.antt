@@ -13,7 +13,9 @@ invariant_of-self c =
     let counted = c.requires.quiet.counted in
     record {
       mark = was.mark;
-      running = quiet_continues c.args.action inside.marks.present c.perform.new.view c.requires.quiet.quiet was.running c.perform.ensures.view;
+      running =
+          quiet_continues c.args.action inside.marks.present c.perform.new.view c.requires.quiet.quiet was.running
+          c.perform.ensures.view;
       aligned = was.aligned;
       empty = was.empty;
       counted = omega (arith, counted);

@@ -21,9 +21,12 @@ invariant_of-self c =
     let cache : Cached = caches.lent pool c.args.sets.now in
     let was = is_live inside.marks inside.hold inside.private (section_of live) c.self.invariant
     (ap (λ state. state.live) c.self.view_is ∙ c.requires.is) in
-    let may = subst (λ state. MayBuffer pool state (section_of live) cache c.args.action) (sym c.self.view_is) c.requires.buffered in
+    let may =
+    subst (λ state. MayBuffer pool state (section_of live) cache c.args.action) (sym c.self.view_is)
+    c.requires.buffered in
     stays_live pool c.run_over.new.pool inside.marks inside.hold c.run_over.new.hold (section_of live) _ c.args.action
-    (section_byte (holds.lent pool inside.hold).entries live.word live.new (cached_byte cache)) c.run_over.new.view was may.goes_on may.unmixed
+    (section_byte (holds.lent pool inside.hold).entries live.word live.new (cached_byte cache)) c.run_over.new.view was
+    may.goes_on may.unmixed
     c.run_over.ensures.view c.run_over.ensures.hold
 
 pub returns-clause-cache : goal.returns-clause-cache

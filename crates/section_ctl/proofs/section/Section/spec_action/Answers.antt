@@ -20,8 +20,11 @@ returns-in-Live-clause-marked c =
     let pool = c.args.pool.now in
     let next = c.run_live.new.pool in
     let cache = caches.lent pool c.args.sets.now in
-    let may = of_some c.args.self.now.live section (λ s. MayBuffer pool c.args.self.now s cache c.args.action) (live c) c.requires.buffered in
-    marked_after pool next c.args.self.now _ section cache (caches.lent next c.run_live.new.sets) c.args.action may.bit c.requires.marked
+    let may =
+    of_some c.args.self.now.live section (λ s. MayBuffer pool c.args.self.now s cache c.args.action) (live c)
+    c.requires.buffered in
+    marked_after pool next c.args.self.now _ section cache (caches.lent next c.run_live.new.sets) c.args.action may.bit
+    c.requires.marked
     c.run_live.ensures.ran c.run_live.ensures.cache
 
 pub returns-in-Live-clause-shows : goal.returns-in-Live-clause-shows
@@ -30,11 +33,13 @@ returns-in-Live-clause-shows c =
     let pool = c.args.pool.now in
     let next = c.run_live.new.pool in
     let cache = caches.lent pool c.args.sets.now in
-    at_some c.args.self.now.live section (λ s. GoesOnRun pool next c.args.self.now c.run_live.new.self s cache c.args.action) (live c)
+    at_some c.args.self.now.live section
+    (λ s. GoesOnRun pool next c.args.self.now c.run_live.new.self s cache c.args.action) (live c)
     (goes_on_run pool next c.args.self.now c.run_live.new.self section cache c.args.action c.run_live.ensures.ran)
 
 pub returns-in-Armed-clause-shows_armed : goal.returns-in-Armed-clause-shows_armed
 returns-in-Armed-clause-shows_armed c =
     let reserved = reserved_of c.in-Armed.reserved in
-    at_some c.args.self.now.armed reserved (λ r. ContinuesRun c.args.self.now c.run_armed.new.self r c.args.action) (armed c)
+    at_some c.args.self.now.armed reserved (λ r. ContinuesRun c.args.self.now c.run_armed.new.self r c.args.action)
+    (armed c)
     (continues_run c.args.self.now c.run_armed.new.self reserved c.args.action c.run_armed.ensures)

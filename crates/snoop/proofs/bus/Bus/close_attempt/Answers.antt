@@ -13,7 +13,8 @@ returns c =
     let bus = bus_state c.args.self.now in
     let h = c.args.hart.number in
     rw c.close_attempt.ensures
-    (leaves_agent bus h (agent_closed (agent_at bus.agents h)) (λ state. close_attempt (hart_of state h)) c.requires.ready refl refl
+    (leaves_agent bus h (agent_closed (agent_at bus.agents h)) (λ state. close_attempt (hart_of state h))
+    c.requires.ready refl refl
     (λ state shows. record {
       shown = ap agent_closed (shows.agents h) ∙ closed_agent (hart_of state h);
       section_stays = refl;

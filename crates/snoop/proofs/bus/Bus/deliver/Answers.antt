@@ -18,7 +18,8 @@ returns-in-Some-clause-leaves c =
       ready = effect.ready;
       shows = λ state shows.
           subst (Shows new)
-          (sym (delivers state c.args.hart.number (numbered c.in-Some.message) (sym (c.in-Some.ensures.message state shows))).0)
+          (sym (delivers state c.args.hart.number (numbered c.in-Some.message)
+          (sym (c.in-Some.ensures.message state shows))).0)
           (effect.shows _ (taken.shows state shows));
       memory_stays = lines_after old mid new taken.copies_stay effect.memory_stays;
       told = told_after old mid new taken.copies_stay effect.told;
@@ -27,7 +28,8 @@ returns-in-Some-clause-leaves c =
 pub returns-in-Some-clause-outcome : goal.returns-in-Some-clause-outcome
 returns-in-Some-clause-outcome c = λ state shows.
     ap Delivered (c.take_effect.ensures.losers _ (c.take_message.ensures.leaves.shows state shows))
-    ∙ sym (delivers state c.args.hart.number (numbered c.in-Some.message) (sym (c.in-Some.ensures.message state shows))).1
+    ∙ sym (delivers state c.args.hart.number (numbered c.in-Some.message)
+    (sym (c.in-Some.ensures.message state shows))).1
 
 pub returns-in-None-clause-leaves : goal.returns-in-None-clause-leaves
 returns-in-None-clause-leaves c =

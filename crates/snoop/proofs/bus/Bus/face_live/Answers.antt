@@ -19,14 +19,17 @@ returns-clause-leaves g c =
     let known = c.fates-fates.result.items in
     let old = bus_state c.args.self.now in
     let mid = bus_state c.settle_all.new.self in
-    let settled : AreSettledBelow head (fate_in known) (length known) old mid = rw c.deref-2.ensures.0 at c.settle_all.ensures in
-    let sent : bus_state c.answer_head.new.self ≡ record mid { agents = sent_in mid.mode known c.args.head.hart.number mid.agents } =
+    let settled : AreSettledBelow head (fate_in known) (length known) old mid =
+    rw c.deref-2.ensures.0 at c.settle_all.ensures in
+    let sent : bus_state c.answer_head.new.self
+    ≡ record mid { agents = sent_in mid.mode known c.args.head.hart.number mid.agents } =
     rw c.deref-3.ensures.0 at c.answer_head.ensures in
     subst (λ bus. LosesSections (λ state. faced state head) old bus) (sym sent)
     (record {
       ready = faced_ready head known old mid settled c.requires.ready;
       shows = λ state shows.
-          faced_shows head known old mid state c.fates-fates.ensures.count settled shows (c.fates-fates.ensures.each state shows);
+          faced_shows head known old mid state c.fates-fates.ensures.count settled shows
+          (c.fates-fates.ensures.each state shows);
       memory_stays = settled.lines;
       told = settled.stays.told;
     })
@@ -52,6 +55,7 @@ returns-then-nobody_met-clause-leaves g c =
 pub returns-then-nobody_met-clause-losers : goal.returns-then-nobody_met-clause-losers
 returns-then-nobody_met-clause-losers g c = λ state shows.
     nobody_lost c.none.result c.none.ensures
-    ∙ unmet_losers (numbered c.args.head) (bus_state c.args.self.now) state shows c.fates-fates.result.items c.fates-fates.ensures.count
+    ∙ unmet_losers (numbered c.args.head) (bus_state c.args.self.now) state shows c.fates-fates.result.items
+    c.fates-fates.ensures.count
     (ap nobody_met (sym c.deref.ensures.0) ∙ sym c.nobody_met.ensures ∙ c.if-nobody_met.true)
     (c.fates-fates.ensures.each state shows)

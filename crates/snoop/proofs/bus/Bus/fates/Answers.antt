@@ -13,4 +13,5 @@ loop-number-preserved g c =
 
 pub returns-clause-each : goal.returns-clause-each
 returns-clause-each g c =
-    all_fates (bus_state c.args.self.now) (numbered c.args.head) c.loop-number.number c.loop-number.fates.items c.loop-number.invariant (omega arith)
+    all_fates (bus_state c.args.self.now) (numbered c.args.head) c.loop-number.number c.loop-number.fates.items
+    c.loop-number.invariant (omega arith)

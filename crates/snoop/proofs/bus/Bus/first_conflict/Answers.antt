@@ -11,11 +11,13 @@ returns-then-conflicts c = λ state shows.
     let test : ℕ → Bool = λ h. conflicts (numbered c.args.request) h (hart_of state h) in
     ap Some c.at-hart.ensures
     ∙ sym
-    (first_here test state.harts c.loop-number.number (omega (arith, shows.agent_each)) (c.loop-number.invariant state shows)
+    (first_here test state.harts c.loop-number.number (omega (arith, shows.agent_each))
+    (c.loop-number.invariant state shows)
     (ap test (sym c.at-hart.ensures) ∙ sym (c.conflicts.ensures state shows) ∙ c.if-conflicts.true))
 
 pub loop-number-preserved : goal.loop-number-preserved
 loop-number-preserved c = λ state shows.
     let test : ℕ → Bool = λ h. conflicts (numbered c.args.request) h (hart_of state h) in
-    first_later test state.harts c.loop-number.number (omega (arith, shows.agent_each)) (c.loop-number.invariant state shows)
+    first_later test state.harts c.loop-number.number (omega (arith, shows.agent_each))
+    (c.loop-number.invariant state shows)
     (ap test (sym c.at-hart.ensures) ∙ sym (c.conflicts.ensures state shows) ∙ c.if-conflicts.false)

@@ -14,7 +14,9 @@ returns-clause-leaves c =
     let is = c.requires in
     record {
       ready = serve_ready old new request before after is.ready is.ordered c.serve_parts.ensures;
-      shows = λ state shows. serve_shows old new state request before after is.ready shows is.ordered (is.free state shows) c.serve_parts.ensures;
+      shows =
+          λ state shows. serve_shows old new state request before after is.ready shows is.ordered (is.free state shows)
+          c.serve_parts.ensures;
       told = (serve_stays old new request before after c.serve_parts.ensures).told;
       holds = c.serve_parts.ensures.holds;
     }

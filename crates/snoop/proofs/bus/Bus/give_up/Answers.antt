@@ -12,5 +12,11 @@ returns c =
     let h = c.args.hart.number in
     let freed : Agent → Agent = λ agent. record agent { held_line = None } in
     rw c.give_up.ensures
-    (leaves_agent bus h (freed (agent_at bus.agents h)) (λ state. record (hart_of state h) { held_line = None }) c.requires.ready refl refl
-    (λ state shows. record { shown = ap freed (shows.agents h); section_stays = refl; armed_stays = refl; cache_stays = refl }))
+    (leaves_agent bus h (freed (agent_at bus.agents h)) (λ state. record (hart_of state h) { held_line = None })
+    c.requires.ready refl refl
+    (λ state shows. record {
+      shown = ap freed (shows.agents h);
+      section_stays = refl;
+      armed_stays = refl;
+      cache_stays = refl;
+    }))

@@ -16,7 +16,8 @@ returns-clause-exact c =
 
 pub returns-clause-shown : goal.returns-clause-shown
 returns-clause-shown c = λ state shows.
-    subst (λ mail. (c.has_mail.result ≡ true) ↔ (mail ≢ [])) (ap (λ agent. agent.mail) (shows.agents c.args.hart.number)) (returns-clause-exact c)
+    subst (λ mail. (c.has_mail.result ≡ true) ↔ (mail ≢ []))
+    (ap (λ agent. agent.mail) (shows.agents c.args.hart.number)) (returns-clause-exact c)
 
 pub returns-clause-outcome : goal.returns-clause-outcome
 unfolding delivery.deliver_turn

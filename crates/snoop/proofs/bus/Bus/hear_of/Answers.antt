@@ -33,7 +33,8 @@ returns-then-loses_to_origin-clause-leaves c =
 pub returns-then-loses_to_origin-clause-losers : goal.returns-then-loses_to_origin-clause-losers
 returns-then-loses_to_origin-clause-losers c = λ state shows.
     one_loser c.with.result c.args.hart.number c.args.origin.number c.args.origin.small
-    (λ k. c.with.ensures k ∙ ap (λ other. if k == c.args.hart.number then Some c.args.origin.number else other) (c.none.ensures k))
+    (λ k. c.with.ensures k ∙ ap (λ other. if k == c.args.hart.number then Some c.args.origin.number else other)
+    (c.none.ensures k))
     ∙ ap (λ loses. if loses then one_lost c.args.hart.number c.args.origin.number else nobody)
     (sym c.if-loses_to_origin.true ∙ c.loses_to_origin.ensures state shows)
 
@@ -48,7 +49,8 @@ returns-else-loses_to_origin-clause-leaves c =
     (record {
       ready = heard_ready bus h origin c.requires.ready;
       shows = λ state shows.
-          heard_shows bus state h origin request shows (sym (c.loses_to_origin.ensures state shows) ∙ c.if-loses_to_origin.false);
+          heard_shows bus state h origin request shows
+          (sym (c.loses_to_origin.ensures state shows) ∙ c.if-loses_to_origin.false);
       memory_stays = refl;
       told = told_same bus;
     })

@@ -6,14 +6,20 @@ use Rattle.snoop.proofs.bus.Bus.holder.Goals as goal
 
 pub returns-then-is_other_holder : goal.returns-then-is_other_holder
 returns-then-is_other_holder c = λ state shows.
-    let test : ℕ → Bool = λ other. not (other == c.args.request.hart.number) && is_held (hart_of state other).held_line c.args.request.line.number in
+    let test : ℕ → Bool =
+    λ other. not (other == c.args.request.hart.number) && is_held (hart_of state other).held_line
+    c.args.request.line.number in
     ap Some c.at-hart.ensures
     ∙ sym
-    (first_here test state.harts c.loop-number.number (omega (arith, shows.agent_each)) (c.loop-number.invariant state shows)
+    (first_here test state.harts c.loop-number.number (omega (arith, shows.agent_each))
+    (c.loop-number.invariant state shows)
     (ap test (sym c.at-hart.ensures) ∙ sym (c.is_other_holder.ensures state shows) ∙ c.if-is_other_holder.true))
 
 pub loop-number-preserved : goal.loop-number-preserved
 loop-number-preserved c = λ state shows.
-    let test : ℕ → Bool = λ other. not (other == c.args.request.hart.number) && is_held (hart_of state other).held_line c.args.request.line.number in
-    first_later test state.harts c.loop-number.number (omega (arith, shows.agent_each)) (c.loop-number.invariant state shows)
+    let test : ℕ → Bool =
+    λ other. not (other == c.args.request.hart.number) && is_held (hart_of state other).held_line
+    c.args.request.line.number in
+    first_later test state.harts c.loop-number.number (omega (arith, shows.agent_each))
+    (c.loop-number.invariant state shows)
     (ap test (sym c.at-hart.ensures) ∙ sym (c.is_other_holder.ensures state shows) ∙ c.if-is_other_holder.false)

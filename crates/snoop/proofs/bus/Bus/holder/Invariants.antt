@@ -9,4 +9,5 @@ abbrev pub invariant-loop-number : goal.invariant-loop-number
 invariant-loop-number l =
     (state : ModelState) → Shows (bus_state l.self) state →
     holder_of state l.request.hart.number l.request.line.number ≡ first_such
-    (λ other. not (other == l.request.hart.number) && is_held (hart_of state other).held_line l.request.line.number) (drop l.number (numbers_of state))
+    (λ other. not (other == l.request.hart.number) && is_held (hart_of state other).held_line l.request.line.number)
+    (drop l.number (numbers_of state))

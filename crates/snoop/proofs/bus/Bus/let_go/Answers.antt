@@ -18,16 +18,19 @@ returns-clause-leaves c =
       shows = λ state starts.
           let left = model.let_go state (numbered c.args.head) in
           shows_committed new (with_committed state.committed left) left.committed starts.keeps
-          (let_go_shows bus new state (numbered c.args.head) c.freed_by-freed.result starts.shows c.freed_by-freed.ensures gone);
+          (let_go_shows bus new state (numbered c.args.head) c.freed_by-freed.result starts.shows
+          c.freed_by-freed.ensures gone);
       memory_stays = gone.lines;
       told = gone.stays.told;
     }
 
 pub returns-clause-parts : goal.returns-clause-parts
 returns-clause-parts c = λ state shows.
-    let_go_shows (bus_state c.args.self.now) (bus_state c.let_each_go.new.self) state (numbered c.args.head) c.freed_by-freed.result shows
+    let_go_shows (bus_state c.args.self.now) (bus_state c.let_each_go.new.self) state (numbered c.args.head)
+    c.freed_by-freed.result shows
     c.freed_by-freed.ensures c.let_each_go.ensures
 
 pub returns-clause-freed : goal.returns-clause-freed
 returns-clause-freed c = λ state shows.
-    freed_is (bus_state c.args.self.now) state (numbered c.args.head) c.freed_by-freed.result c.requires.ready shows c.freed_by-freed.ensures
+    freed_is (bus_state c.args.self.now) state (numbered c.args.head) c.freed_by-freed.result c.requires.ready shows
+    c.freed_by-freed.ensures

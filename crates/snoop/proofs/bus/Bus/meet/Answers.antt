@@ -15,7 +15,8 @@ returns-clause-leaves g c =
       ready = faced.ready;
       shows = λ state starts.
           faced.shows (let_go state head)
-          (gone.shows state (record { shows = starts.shows; keeps = met_bytes state head state.committed starts.keeps }));
+          (gone.shows state
+          (record { shows = starts.shows; keeps = met_bytes state head state.committed starts.keeps }));
       memory_stays = faced.memory_stays ∙ gone.memory_stays;
       told = λ pool bytes tells. faced.told pool bytes (gone.told pool bytes tells);
     }
@@ -23,5 +24,6 @@ returns-clause-leaves g c =
 pub returns-clause-losers : goal.returns-clause-losers
 returns-clause-losers g c = λ state shows.
     let head = numbered c.args.head in
-    c.face-losers.ensures.losers (with_committed state.committed (let_go state head)) (c.let_go-freed.ensures.parts state shows)
+    c.face-losers.ensures.losers (with_committed state.committed (let_go state head))
+    (c.let_go-freed.ensures.parts state shows)
     ∙ losers_elsewhere (let_go state head) state.committed head

@@ -15,7 +15,8 @@ returns-in-Some-clause-leaves g c =
       shows = λ state starts.
           let head : Some (numbered c.in-Some.head) ≡ head_of state c.args.line.number =
           c.in-Some.ensures ∙ ap (λ order. first_of order c.args.line.number) starts.shows.order in
-          let keeps = subst (λ found. KeepsBytes state.committed (met_if state found).committed) (sym head) starts.keeps in
+          let keeps =
+          subst (λ found. KeepsBytes state.committed (met_if state found).committed) (sym head) starts.keeps in
           subst (λ found. Shows (bus_state c.meet.new.self) (met_if state found)) head
           (met.shows state (record { shows = starts.shows; keeps = keeps }));
       memory_stays = met.memory_stays;

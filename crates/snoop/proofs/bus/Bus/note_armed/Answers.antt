@@ -14,7 +14,8 @@ returns c =
     record {
       ready =
           rw c.note_armed.ensures
-          (ready_agent bus h (agent_noted count (agent_at bus.agents h)) c.requires.ready (λ request is. is) c.requires.few);
+          (ready_agent bus h (agent_noted count (agent_at bus.agents h)) c.requires.ready (λ request is. is)
+          c.requires.few);
       shows = λ state now shows noted. rw c.note_armed.ensures (noted_shows bus state h count now shows noted);
       copies_stay = refl;
     }

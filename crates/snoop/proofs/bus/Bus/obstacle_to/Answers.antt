@@ -18,5 +18,7 @@ pub returns-in-None : goal.returns-in-None
 returns-in-None c = λ state shows.
     let request = numbered c.args.request in
     c.other_holder.ensures state shows
-    ∙ sym (ap (λ by. blocks_if Retained by (held_by state request)) (none_first (λ h. false) (numbers_of state) (λ h. refl)))
-    ∙ ap (obstacle_by state request) (c.in-None.ensures ∙ ap (λ order. first_of order c.args.request.line.number) shows.order)
+    ∙ sym (ap (λ by. blocks_if Retained by (held_by state request))
+    (none_first (λ h. false) (numbers_of state) (λ h. refl)))
+    ∙ ap (obstacle_by state request)
+    (c.in-None.ensures ∙ ap (λ order. first_of order c.args.request.line.number) shows.order)

@@ -12,10 +12,13 @@ returns c =
     let bus = bus_state c.args.self.now in
     let h = c.args.hart.number in
     rw c.open_attempt.ensures
-    (leaves_agent bus h (agent_opened bus.mode h (agent_at bus.agents h)) (λ state. open_attempt state.config.mode h (hart_of state h))
+    (leaves_agent bus h (agent_opened bus.mode h (agent_at bus.agents h))
+    (λ state. open_attempt state.config.mode h (hart_of state h))
     c.requires.ready refl refl
     (λ state shows. record {
-      shown = ap (agent_opened bus.mode h) (shows.agents h) ∙ ap (λ mode. agent_opened mode h (agent_of (hart_of state h))) shows.mode;
+      shown =
+          ap (agent_opened bus.mode h) (shows.agents h)
+          ∙ ap (λ mode. agent_opened mode h (agent_of (hart_of state h))) shows.mode;
       section_stays = refl;
       armed_stays = refl;
       cache_stays = refl;

@@ -11,4 +11,5 @@ place-requires-clause-raised g c =
     let request = numbered c.in-Some.request in
     let raised : (agent_at bus.agents c.args.hart.number).raised ≡ Some request =
     sym (subst (λ agent. Some request ≡ agent.raised) c.agent.ensures c.in-Some.ensures) in
-    subst (λ h. (agent_at bus.agents h).raised ≡ Some request) (sym (c.requires.ready.raised c.args.hart.number request raised).own) raised
+    subst (λ h. (agent_at bus.agents h).raised ≡ Some request)
+    (sym (c.requires.ready.raised c.args.hart.number request raised).own) raised

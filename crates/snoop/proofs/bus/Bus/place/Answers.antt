@@ -10,7 +10,8 @@ use Rattle.snoop.specs.Shows.{bus_state}
 pub returns-in-InFront-clause-leaves : goal.returns-in-InFront-clause-leaves
 unfolding placed
 returns-in-InFront-clause-leaves g c =
-    placed_and_met (bus_state c.args.self.now) (bus_state c.go_in_front.new.self) (bus_state c.meet.new.self) (numbered c.args.request) InFront
+    placed_and_met (bus_state c.args.self.now) (bus_state c.go_in_front.new.self) (bus_state c.meet.new.self)
+    (numbered c.args.request) InFront
     (λ state. refl)
     (λ state shows. ap definition_place (sym c.in-InFront.is) ∙ c.place_for.ensures state shows)
     c.go_in_front.ensures c.meet.ensures.leaves
@@ -42,7 +43,8 @@ returns-in-Behind-clause-freed g c = λ state shows.
 pub returns-in-Alone-clause-leaves : goal.returns-in-Alone-clause-leaves
 unfolding placed
 returns-in-Alone-clause-leaves g c =
-    placed_and_met (bus_state c.args.self.now) (bus_state c.put_last.new.self) (bus_state c.meet-in-Alone.new.self) (numbered c.args.request) Alone
+    placed_and_met (bus_state c.args.self.now) (bus_state c.put_last.new.self) (bus_state c.meet-in-Alone.new.self)
+    (numbered c.args.request) Alone
     (λ state. refl)
     (λ state shows. ap definition_place (sym c.in-Alone.is) ∙ c.place_for.ensures state shows)
     c.put_last.ensures c.meet-in-Alone.ensures.leaves

@@ -8,5 +8,6 @@ pub returns : goal.returns
 returns c =
     let request = numbered c.args.request in
     rw (c.unraise.ensures, c.in_front.ensures)
-    (leaves_ordered (λ order. in_front_of order request) (bus_state c.args.self.now) request (λ order. placed_in_front order request)
+    (leaves_ordered (λ order. in_front_of order request) (bus_state c.args.self.now) request
+    (λ order. placed_in_front order request)
     c.requires.ready c.requires.raised)

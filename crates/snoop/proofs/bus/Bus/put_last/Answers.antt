@@ -8,5 +8,6 @@ pub returns : goal.returns
 returns c =
     let request = numbered c.args.request in
     rw (c.unraise.ensures, c.append.ensures)
-    (leaves_ordered (λ order. appended order request) (bus_state c.args.self.now) request (λ order. placed_last order request)
+    (leaves_ordered (λ order. appended order request) (bus_state c.args.self.now) request
+    (λ order. placed_last order request)
     c.requires.ready c.requires.raised)

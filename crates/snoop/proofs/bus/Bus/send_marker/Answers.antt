@@ -15,7 +15,8 @@ returns-in-Tlr c =
       mode = refl;
       shows = λ state shows.
           rw c.post.ensures
-          (subst (λ mode. Shows (with_marker bus from to) (marked_from mode state from to)) (sym c.in-Tlr.is ∙ shows.mode)
+          (subst (λ mode. Shows (with_marker bus from to) (marked_from mode state from to))
+          (sym c.in-Tlr.is ∙ shows.mode)
           (shows_marker bus state from to shows));
       copies_stay = refl;
     }

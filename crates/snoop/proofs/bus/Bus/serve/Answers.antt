@@ -9,7 +9,8 @@ use Rattle.snoop.proofs.bus.Bus.serve.Goals as goal
 pub serve_past-requires-clause-ordered : goal.serve_past-requires-clause-ordered
 serve_past-requires-clause-ordered g c =
     let order = (bus_state c.args.self.now).order in
-    ap (request_of order) (hart_of_request_of order c.args.hart.number (numbered c.in-Some.request) (sym c.in-Some.ensures))
+    ap (request_of order)
+    (hart_of_request_of order c.args.hart.number (numbered c.in-Some.request) (sym c.in-Some.ensures))
     ∙ sym c.in-Some.ensures
 
 pub returns-in-Some-clause-memory : goal.returns-in-Some-clause-memory

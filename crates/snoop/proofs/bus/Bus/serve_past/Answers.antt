@@ -37,7 +37,8 @@ returns-in-None-clause-leaves g c =
       ready = served.ready;
       shows = λ state starts.
           let free : serving.obstacle_to state request ≡ Free =
-          unblocked_free (serving.obstacle_to state request) (sym (c.blocked.ensures.exact state starts.shows) ∙ c.in-None.is) in
+          unblocked_free (serving.obstacle_to state request)
+          (sym (c.blocked.ensures.exact state starts.shows) ∙ c.in-None.is) in
           let past : serving.Obstacle → ModelState = λ obstacle. (serving.serve_past state request obstacle).state in
           let keeps = subst (λ obstacle. KeepsBytes state.committed (past obstacle).committed) free starts.keeps in
           subst (λ obstacle. Shows (bus_state c.serve_free.new.self) (past obstacle)) (sym free)

@@ -13,5 +13,6 @@ loop-number-preserved c =
     let number = c.loop-number.number in
     let fate : numbered_fate c.index-fates-number.result ≡ fate_in known number =
     fate_read known number c.index-fates-number.result (omega arith) c.index-fates-number.is in
-    one_settled (numbered c.args.head) (fate_in known) number (bus_state c.args.self.now) (bus_state c.loop-number.self) (bus_state c.settle.new.self)
+    one_settled (numbered c.args.head) (fate_in known) number (bus_state c.args.self.now) (bus_state c.loop-number.self)
+    (bus_state c.settle.new.self)
     c.loop-number.invariant (rw (fate, c.at.ensures) at c.settle.ensures) (omega arith)

@@ -6,4 +6,5 @@ use Rattle.snoop.specs.Shows.{bus_state}
 use Rattle.snoop.proofs.bus.Bus.settle_all.Given as goal
 
 abbrev pub invariant-loop-number : goal.invariant-loop-number
-invariant-loop-number l = AreSettledBelow (numbered l.head) (fate_in l.fates) l.number (bus_state l.initial.self) (bus_state l.self)
+invariant-loop-number l =
+    AreSettledBelow (numbered l.head) (fate_in l.fates) l.number (bus_state l.initial.self) (bus_state l.self)

@@ -14,6 +14,7 @@ returns c =
       ready = subst IsReady (sym c.answer_marker.ensures) (marker_ready bus h sender c.requires.ready);
       mode = ap (λ (b : BusState). b.mode) c.answer_marker.ensures;
       shows = λ state shows.
-          subst (λ b. Shows b (after_marker state h sender)) (sym c.answer_marker.ensures) (marker_shows bus state h sender shows);
+          subst (λ b. Shows b (after_marker state h sender)) (sym c.answer_marker.ensures)
+          (marker_shows bus state h sender shows);
       copies_stay = ap (λ (b : BusState). b.copies) c.answer_marker.ensures;
     }

@@ -12,8 +12,10 @@ use Rattle.snoop.proofs.bus.Bus.take_probe.Goals as goal
 pub returns-then-knows-clause-losers : goal.returns-then-knows-clause-losers
 returns-then-knows-clause-losers c = λ state shows.
     nobody_lost c.none.result c.none.ensures
-    ∙ ap (λ known. if known then nobody else probe_losers state c.args.hart.number c.args.origin.number (ordered_of state c.args.origin.number))
-    (sym c.if-knows.true ∙ c.knows.ensures ∙ ap (λ agent. has agent.told c.args.origin.number) (c.agent.ensures ∙ shows.agents c.args.hart.number))
+    ∙ ap (λ known. if known then nobody else probe_losers state c.args.hart.number c.args.origin.number
+    (ordered_of state c.args.origin.number))
+    (sym c.if-knows.true ∙ c.knows.ensures ∙ ap (λ agent. has agent.told c.args.origin.number)
+    (c.agent.ensures ∙ shows.agents c.args.hart.number))
 
 pub forward-requires-clause-hart_exists : goal.forward-requires-clause-hart_exists
 forward-requires-clause-hart_exists c = c.hear_of-losers.ensures.hart_exists
@@ -32,10 +34,13 @@ returns-clause-leaves c =
           subst (Shows new)
           (ap (after_probe state h origin) (c.of-request.ensures ∙ ap (λ order. request_of order origin) shows.order)
           ∙ ap (λ known. if known then state else after_probe state h origin (ordered_of state origin))
-          (sym c.if-knows.false ∙ c.knows.ensures ∙ ap (λ agent. has agent.told origin) (c.agent.ensures ∙ shows.agents h)))
+          (sym c.if-knows.false ∙ c.knows.ensures ∙ ap (λ agent. has agent.told origin)
+          (c.agent.ensures ∙ shows.agents h)))
           (probe_shows heard new state h origin request (hears.shows state shows) c.forward.ensures);
       memory_stays = ap (λ (copies : Holding). copies.lines) c.forward.ensures.copies ∙ hears.memory_stays;
-      told = λ pool bytes tells. subst (λ copies. TellsIn pool copies bytes) (sym c.forward.ensures.copies) (hears.told pool bytes tells);
+      told =
+          λ pool bytes tells. subst (λ copies. TellsIn pool copies bytes) (sym c.forward.ensures.copies)
+          (hears.told pool bytes tells);
     }
 
 pub returns-clause-losers : goal.returns-clause-losers
@@ -43,5 +48,7 @@ returns-clause-losers c = λ state shows.
     let request = c.of-request.ensures ∙ ap (λ order. request_of order c.args.origin.number) shows.order in
     c.hear_of-losers.ensures.losers state shows
     ∙ ap (probe_losers state c.args.hart.number c.args.origin.number) request
-    ∙ ap (λ known. if known then nobody else probe_losers state c.args.hart.number c.args.origin.number (ordered_of state c.args.origin.number))
-    (sym c.if-knows.false ∙ c.knows.ensures ∙ ap (λ agent. has agent.told c.args.origin.number) (c.agent.ensures ∙ shows.agents c.args.hart.number))
+    ∙ ap (λ known. if known then nobody else probe_losers state c.args.hart.number c.args.origin.number
+    (ordered_of state c.args.origin.number))
+    (sym c.if-knows.false ∙ c.knows.ensures ∙ ap (λ agent. has agent.told c.args.origin.number)
+    (c.agent.ensures ∙ shows.agents c.args.hart.number))

@@ -11,7 +11,8 @@ loop-number-preserved c =
     let bus = bus_state c.args.self.now in
     let inside : c.loop-number.number - 1 < length bus.agents = omega arith in (
       omega arith,
-      told_before bus.agents (agent_at bus.agents c.args.hart.number) bus.order c.args.line.number c.loop-number.number (c.loop-number.number - 1) _ _
+      told_before bus.agents (agent_at bus.agents c.args.hart.number) bus.order c.args.line.number c.loop-number.number
+          (c.loop-number.number - 1) _ _
           (omega arith)
           inside
           c.loop-number.invariant.1
@@ -23,5 +24,6 @@ returns c = λ state shows.
     let bus = bus_state c.args.self.now in
     let all : c.loop-number.number ≡ 0 = omega arith in
     c.loop-number.invariant.1
-    ∙ ap (λ n. told_from (agent_at bus.agents c.args.hart.number) bus.order c.args.line.number n (drop n bus.agents)) all
+    ∙ ap (λ n. told_from (agent_at bus.agents c.args.hart.number) bus.order c.args.line.number n (drop n bus.agents))
+    all
     ∙ winner_is_told bus state c.args.hart.number c.args.line.number shows

@@ -8,7 +8,9 @@ use Rattle.snoop.specs.Shows.{bus_state}
 pub invariant_of-rig : goal.invariant_of-rig
 invariant_of-rig c =
     let bus = bus_state c.args.rig.now.bus in
-    let request = numbered (record { hart = c.args.hart; line = c.args.line; need = c.args.need; stamp = c.attempt-stamp.result }) in
+    let request =
+    numbered
+    (record { hart = c.args.hart; line = c.args.line; need = c.args.need; stamp = c.attempt-stamp.result }) in
     let inside : c.args.hart.number < length bus.agents = omega (arith, c.args.rig.now.bus.agents.ok.0) in
     let none : request_of bus.order c.args.hart.number ≡ None =
     sym c.of.ensures ∙ no_request c.of.result (sym c.is_some.ensures ∙ c.if-is_some.false) in record {

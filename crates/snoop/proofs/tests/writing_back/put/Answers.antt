@@ -30,13 +30,15 @@ touched_there pool own touched line may touch =
 
 own_may : (was own : Slotted) (line : ℕ) → own ≡ was → may_write (letter_of was.residency line) ≡ true →
     may_write (letter_of own.residency line) ≡ true
-own_may was own line is may = subst (λ (cache : Slotted). may_write (letter_of cache.residency line) ≡ true) (sym is) may
+own_may was own line is may =
+    subst (λ (cache : Slotted). may_write (letter_of cache.residency line) ≡ true) (sym is) may
 
 pub set_letter-requires-clause-resident : goal.set_letter-requires-clause-resident
 set_letter-requires-clause-resident c =
     let pool = c.args.rig.now.pool in
     touched_there pool c.sets_mut-cache.result.now c.touch.new.self c.args.line.number
-    (own_may _ c.sets_mut-cache.result.now c.args.line.number c.sets_mut-cache.ensures.value c.requires.may) (c.touch.ensures.touched pool)
+    (own_may _ c.sets_mut-cache.result.now c.args.line.number c.sets_mut-cache.ensures.value c.requires.may)
+    (c.touch.ensures.touched pool)
 
 pub bytes_mut-requires-clause-resident : goal.bytes_mut-requires-clause-resident
 bytes_mut-requires-clause-resident c =
@@ -47,7 +49,8 @@ bytes_mut-requires-clause-resident c =
     ∙ ap (option_map (copy_with_letter M))
     (copy_is (lent pool c.touch.new.self) line
     (touched_there pool c.sets_mut-cache.result.now c.touch.new.self line
-    (own_may _ c.sets_mut-cache.result.now line c.sets_mut-cache.ensures.value c.requires.may) (c.touch.ensures.touched pool))))
+    (own_may _ c.sets_mut-cache.result.now line c.sets_mut-cache.ensures.value c.requires.may)
+    (c.touch.ensures.touched pool))))
 
 pub invariant_of-rig : goal.invariant_of-rig
 invariant_of-rig c =
@@ -62,7 +65,8 @@ invariant_of-rig c =
       ready =
           ready_returned bus h modified c.requires.hart_exists c.args.rig.now.ready
           (unasked_returned bus h modified c.requires.no_request
-          (well_formed_by_calls (lent pool own) (lent pool c.touch.new.self) (lent pool modified) c.args.line.number formed
+          (well_formed_by_calls (lent pool own) (lent pool c.touch.new.self) (lent pool modified)
+          c.args.line.number formed
           (c.touch.ensures.touched pool) (c.set_letter.ensures.lettered pool))
           (λ plain.
           unmarked_by_calls (lent pool own) (lent pool c.touch.new.self) (lent pool modified) c.args.line.number
@@ -94,9 +98,11 @@ returns c =
     let stores : IsStoredIn (cache_at copies.caches h) (lent after modified) line put =
     subst (λ cache. IsStoredIn cache (lent after modified) line put) is
     (stored_by_calls (lent pool own) (lent pool c.touch.new.self) (lent pool modified) (lent after modified) line put
-    (own_may _ own line value c.requires.may) (c.touch.ensures.touched pool) (c.set_letter.ensures.lettered pool) written.written) in record {
+    (own_may _ own line value c.requires.may) (c.touch.ensures.touched pool) (c.set_letter.ensures.lettered pool)
+    written.written) in record {
       bytes = bytes_with told.bytes line put;
       tells =
-          told_returned pool after bus h modified told.bytes (bytes_with told.bytes line put) told.tells c.requires.hart_exists owner
+          told_returned pool after bus h modified told.bytes (bytes_with told.bytes line put) told.tells
+          c.requires.hart_exists owner
           written.kept leaves (tells_stored copies h line (lent after modified) told.bytes put told.tells.told stores);
     }

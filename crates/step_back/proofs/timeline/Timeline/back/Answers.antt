@@ -16,7 +16,8 @@ undo_all-requires c =
       arith,
       c.count.ensures hart,
       ap length
-          (took_effect c.self.inside.trail c.self.inside.history.entries before c.entry-entry.result harts (subst At next c.self.invariant)
+          (took_effect c.self.inside.trail c.self.inside.history.entries before c.entry-entry.result harts
+          (subst At next c.self.invariant)
           c.entry-entry.ensures (c.of.ensures hart)),
       length-append (serial_to c.self.inside.history.entries before) harts,
     )
@@ -27,5 +28,7 @@ invariant_of-self c =
     let next : c.self.inside.place ≡ before + 1 = omega arith in
     let At : ℕ → Type 0 = StandsAt c.self.inside.trail c.self.inside.history.entries in
     let hart : ℕ = c.entry-entry.result.event.hart.number in
-    stands_back c.self.inside.trail c.undo_all.new.self c.self.inside.history.entries before c.count.result c.entry-entry.result
-    (harts_in hart c.of.result) (subst At next c.self.invariant) c.entry-entry.ensures (c.of.ensures hart) (c.count.ensures hart) c.undo_all.ensures
+    stands_back c.self.inside.trail c.undo_all.new.self c.self.inside.history.entries before c.count.result
+    c.entry-entry.result
+    (harts_in hart c.of.result) (subst At next c.self.invariant) c.entry-entry.ensures (c.of.ensures hart)
+    (c.count.ensures hart) c.undo_all.ensures

@@ -17,6 +17,7 @@ take_effect-requires-clause-room c =
 
 pub invariant_of-self : goal.invariant_of-self
 invariant_of-self c =
-    stands_on c.self.inside.trail c.take_effect.new.self c.self.inside.history.entries c.self.inside.place c.entry-entry.result
+    stands_on c.self.inside.trail c.take_effect.new.self c.self.inside.history.entries c.self.inside.place
+    c.entry-entry.result
     (harts_in c.entry-entry.result.event.hart.number c.of.result) c.self.invariant c.entry-entry.ensures
     (c.of.ensures c.entry-entry.result.event.hart.number) c.take_effect.ensures

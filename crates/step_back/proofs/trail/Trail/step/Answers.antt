@@ -14,8 +14,10 @@ step_noting-change-requires c =
 pub invariant_of-self : goal.invariant_of-self
 invariant_of-self c = record {
   tracked =
-      goes_on c.self.inside.image c.self.inside.flat c.step_noting-change.new.self c.self.inside.changes.items c.push_reserved.new.self.items
-      c.step_noting-change.result c.self.invariant.tracked c.step_noting-change.ensures.undoable c.push_reserved.ensures.items;
+      goes_on c.self.inside.image c.self.inside.flat c.step_noting-change.new.self c.self.inside.changes.items
+      c.push_reserved.new.self.items
+      c.step_noting-change.result c.self.invariant.tracked c.step_noting-change.ensures.undoable
+      c.push_reserved.ensures.items;
   within = omega (
     arith,
     rw (← c.self.view_is) at c.requires.room,

@@ -8,13 +8,17 @@ use Rattle.step_back.proofs.trail.Trail.undo.Goals as goal
 
 pub undo-requires : goal.undo-requires
 undo-requires c =
-    let back = goes_back c.self.inside.image c.self.inside.flat c.pop.new.self.items c.self.inside.changes.items c.in-Some.change
+    let back =
+    goes_back c.self.inside.image c.self.inside.flat c.pop.new.self.items c.self.inside.changes.items
+    c.in-Some.change
     c.self.invariant.tracked c.in-Some.ensures.items in
     (run (start c.self.inside.image) (harts_of c.pop.new.self.items), back.1)
 
 pub invariant_of-self : goal.invariant_of-self
 invariant_of-self c =
-    let back = goes_back c.self.inside.image c.self.inside.flat c.pop.new.self.items c.self.inside.changes.items c.in-Some.change
+    let back =
+    goes_back c.self.inside.image c.self.inside.flat c.pop.new.self.items c.self.inside.changes.items
+    c.in-Some.change
     c.self.invariant.tracked c.in-Some.ensures.items in
     record {
       tracked = record {

@@ -53,4 +53,5 @@ returns-in-BackOverStart g c =
 pub returns-in-NoSuchHart : goal.returns-in-NoSuchHart
 unfolding line_of
 returns-in-NoSuchHart g c =
-    same_puts c.put_text-in-NoSuchHart.result _ _ _ _ (ap line_of (sym c.in-NoSuchHart.is)) c.put_text-in-NoSuchHart.ensures
+    same_puts c.put_text-in-NoSuchHart.result _ _ _ _ (ap line_of (sym c.in-NoSuchHart.is))
+    c.put_text-in-NoSuchHart.ensures

@@ -11,5 +11,6 @@ returns c =
     let now = c.write_at.new.line in
     entry-stored c.args.pool.now (with_bytes c.args.pool.now old.slot now) old _ c.args.offset c.places.result bytes now
     (c.bytes_mut.ensures.written now) refl refl refl
-    (λ place. c.write_at.ensures place ∙ ap (λ b. laid c.args.offset bytes place (Some (slice_index b place))) c.bytes_mut.ensures.value)
+    (λ place. c.write_at.ensures place ∙ ap (λ b. laid c.args.offset bytes place (Some (slice_index b place)))
+    c.bytes_mut.ensures.value)
     c.places.ensures

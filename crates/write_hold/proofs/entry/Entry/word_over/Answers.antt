@@ -10,7 +10,8 @@ returns c =
     let under = c.args.under.now in
     let over = c.bytes.result.now in
     let seen : (place : ℕ) → merged_byte under over entry.mask place ≡ byte_over c.args.pool.now entry under place =
-    λ place. ap (λ b. merged_byte under b entry.mask place) c.bytes.ensures ∙ merged-over c.args.pool.now entry under place in
+    λ place. ap (λ b. merged_byte under b entry.mask place) c.bytes.ensures
+    ∙ merged-over c.args.pool.now entry under place in
     record {
       value = c.merged_word.ensures.word
           ∙ loaded-word (merged_byte under over entry.mask) (byte_over c.args.pool.now entry under) c.args.offset seen;

@@ -16,7 +16,10 @@ loop-entry-preserved c =
       owner = kept.owner;
       stands = stands_popped i.limit i.entries.cap c.pop.new.self.cap i.entries.items rest entry c.in-Some.ensures.items
           (omega (arith, c.pop.ensures.capacity)) kept.stands;
-      owes = lent-popped pool i.limit i.owner i.entries.items kept.owes rest entry c.in-Some.ensures.items c.give.new.self c.give.ensures;
+      owes =
+          lent-popped pool i.limit i.owner i.entries.items kept.owes rest entry c.in-Some.ensures.items
+          c.give.new.self c.give.ensures;
       others = leaves-then i.owner c.args.pool.now pool c.give.new.self kept.others
-          (leaves-popped pool i.limit i.owner i.entries.items kept.owes rest entry c.in-Some.ensures.items c.give.new.self c.give.ensures);
+          (leaves-popped pool i.limit i.owner i.entries.items kept.owes rest entry c.in-Some.ensures.items
+          c.give.new.self c.give.ensures);
     }

@@ -14,10 +14,12 @@ returns-clause-exact c =
     let answer = c.place_of.result in
     λ pool.
     c.is_some.ensures
-    ∙ is_some_position (is_of line) entries answer (place_told entries _ line answer answer c.deref.ensures.value c.place_of.ensures refl)
+    ∙ is_some_position (is_of line) entries answer
+    (place_told entries _ line answer answer c.deref.ensures.value c.place_of.ensures refl)
     ∙ sym (shown_holds pool entries line) ∙ ap (λ hold. holds (lent pool hold).entries line) c.self.view_is
 
 pub returns-clause-sound : goal.returns-clause-sound
 returns-clause-sound c =
     let i = c.self.inside in
-    λ pool. subst (λ hold. IsHold (lent pool hold)) c.self.view_is (shown_sound pool i.limit i.entries.cap i.owner i.entries.items c.self.invariant)
+    λ pool. subst (λ hold. IsHold (lent pool hold)) c.self.view_is
+    (shown_sound pool i.limit i.entries.cap i.owner i.entries.items c.self.invariant)

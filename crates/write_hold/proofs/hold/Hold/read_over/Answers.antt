@@ -13,9 +13,13 @@ pub word_over-requires-clause-out : goal.word_over-requires-clause-out
 word_over-requires-clause-out c =
     let i = c.self.inside in
     let line = c.args.line.number in
-    let at = place_told i.entries.items _ line (Some c.in-Some.place) c.place_of.result c.deref.ensures.value c.place_of.ensures c.in-Some.is in
-    entry-out c.args.pool.now i.limit i.owner i.entries.items (subst (IsLent c.args.pool.now) (sym c.self.view_is) c.requires.lent) line
-    c.index.result.now (found_at_position (is_of line) i.entries.items c.in-Some.place c.index.result.now at c.index.ensures)
+    let at =
+    place_told i.entries.items _ line (Some c.in-Some.place) c.place_of.result c.deref.ensures.value
+    c.place_of.ensures c.in-Some.is in
+    entry-out c.args.pool.now i.limit i.owner i.entries.items
+    (subst (IsLent c.args.pool.now) (sym c.self.view_is) c.requires.lent) line
+    c.index.result.now (found_at_position (is_of line) i.entries.items c.in-Some.place c.index.result.now at
+    c.index.ensures)
 
 -- the bytes that are read are those of the hold
 pub returns-in-Some : goal.returns-in-Some
@@ -23,7 +27,9 @@ returns-in-Some c =
     let entries = c.self.inside.entries.items in
     let line = c.args.line.number in
     let pool = c.args.pool.now in
-    let at = place_told entries _ line (Some c.in-Some.place) c.place_of.result c.deref.ensures.value c.place_of.ensures c.in-Some.is in
+    let at =
+    place_told entries _ line (Some c.in-Some.place) c.place_of.result c.deref.ensures.value
+    c.place_of.ensures c.in-Some.is in
     let seen =
     seen_as pool entries line (Some c.index.result.now) c.args.under.now
     (found_at_position (is_of line) entries c.in-Some.place c.index.result.now at c.index.ensures)

@@ -2,12 +2,14 @@
 """Tries wrong definitions of the machine: each must be refused by the worked run or row that its file names.
 
     tools/wrong_definitions.py [NAME..]
+    tools/wrong_definitions.py --check
 
 Each file crates/el_model/wrong/NAME.edit has a line 'file:', pairs of lines 'old:' and 'new:', and a line 'run:' with
 the file of crates/computed_runs/proofs that must refuse it, such as Rows/ChainOfTwo. The definitions and that one run
 are copied to a scratch folder as one crate, without any law. As they stand the copy must be proved; with the edit the prover must find
 that the run does not come to what it should, and nothing else wrong in the copy. What other runs and the laws say of the
-edit is not tried. The last line is 'N refused, M failed'.
+edit is not tried. The last line is 'N refused, M failed'. With --check nothing is proved: each old text must stand once
+in its file of crates/el_model.
 
 The crates below el_model are copied as they are, and rt begins with what it kept of them: run rt check in
 crates/el_model before, or the first check proves them anew.
@@ -92,16 +94,22 @@ def checked(model):
     return done.returncode == 0, done.stdout
 
 
-def applied(model, file, pairs):
-    """Whether each old text stands once in the file, and is replaced there."""
-    path = model / file
-    text = path.read_text()
+def edited(text, pairs):
+    """The text with each old text replaced, or None where one does not stand in it exactly once."""
     for old, new in pairs:
         if text.count(old) != 1:
-            return False
+            return None
         text = text.replace(old, new)
-    path.write_text(text)
-    return True
+    return text
+
+
+def applied(model, file, pairs):
+    """Whether the edit could be made in the copy."""
+    path = model / file
+    text = edited(path.read_text(), pairs)
+    if text is not None:
+        path.write_text(text)
+    return text is not None
 
 
 def where_refused(out, run):
@@ -128,7 +136,22 @@ def tried(folder, edit, run, file, pairs):
     return True, f"refused {edit.stem}: {run}, line {lines[0]}"
 
 
+def check():
+    """Tells how many edits can be made in the definitions as they stand, and names those that cannot."""
+    edits = sorted((MODEL / "wrong").glob("*.edit"))
+    stale = []
+    for edit in edits:
+        file, _, pairs = fields(edit)
+        if edited((MODEL / file).read_text(), pairs) is None:
+            stale.append(edit.stem)
+            print(f"wrong_definitions: an old text of {edit.stem} does not stand exactly once in {file}")
+    print(f"wrong_definitions: {len(edits) - len(stale)} passed, {len(stale)} failed")
+    return 1 if stale or not edits else 0
+
+
 def main():
+    if sys.argv[1:] == ["--check"]:
+        return check()
     by_run = {}
     for edit in sorted((MODEL / "wrong").glob("*.edit")):
         if len(sys.argv) == 1 or edit.stem in sys.argv[1:]:

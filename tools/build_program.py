@@ -33,6 +33,8 @@ if not shutil.which("rt"):
 # `rt doc` names a page at the top of the kit.
 KIT = Path(subprocess.run(["rt", "doc"], stdout=subprocess.PIPE, text=True, check=True).stdout.strip()).parent
 CACHE = Path(os.environ.get("XDG_CACHE_HOME") or Path.home() / ".cache") / "elide"
+# The compiler's words for the program logic.
+LOGIC = ("--antt-project", KIT / "rattle" / "logic" / "antt-project.json", "--logic-built", KIT / "logic_built")
 KEPT_OF_EACH = 4
 PROCESSORS = len(os.sched_getaffinity(0))
 # What the proof of a library takes, in bytes: less has been seen of each.
@@ -98,12 +100,11 @@ class Crate:
         if self.kept.is_dir():
             self.kept.touch()
             return "kept"
-        logic = ["--antt-project", KIT / "rattle" / "logic" / "antt-project.json", "--logic-built", KIT / "logic_built"]
         compiler = [KIT / "bin" / "rattle", "build", "--crate-name", self.name]
         with tempfile.TemporaryDirectory(dir=CACHE) as room:
             new = Path(room) / self.name
             new.mkdir()
-            if not self.call(*compiler, *words, *self.libraries(), *logic, "--jobs", str(jobs), "-o", new / made):
+            if not self.call(*compiler, *words, *self.libraries(), *LOGIC, "--jobs", str(jobs), "-o", new / made):
                 return None
             # Where another build was faster, what it made is as good.
             with suppress(OSError):
@@ -137,12 +138,18 @@ class Crate:
             return process.returncode == 0
 
 
-def crate_of(name, known, lines):
-    """A crate by its line of crates.txt, with those below it."""
-    if name not in known:
-        used = [it for it in lines[name].split(":")[1].split() if it in lines]
-        known[name] = Crate(name, lines[name], [crate_of(it, known, lines) for it in used])
-    return known[name]
+def crates():
+    """The crates of crates.txt by their names, each with those below it."""
+    lines = {it.split(":")[0]: it for it in (ROOT / "crates.txt").read_text().splitlines() if it and it[0] != "#"}
+    known = {}
+
+    def crate_of(name):
+        if name not in known:
+            used = [it for it in lines[name].split(":")[1].split() if it in lines]
+            known[name] = Crate(name, lines[name], [crate_of(it) for it in used])
+        return known[name]
+
+    return {name: crate_of(name) for name in lines}
 
 
 def ways_up(libraries):
@@ -198,12 +205,11 @@ def stop(*_):
 
 
 def main():
-    lines = {it.split(":")[0]: it for it in (ROOT / "crates.txt").read_text().splitlines() if it and it[0] != "#"}
     if len(sys.argv) != 2 or not (ROOT / "crates" / sys.argv[1] / "src" / "main.rt").is_file():
         sys.exit("usage: build_program.py NAME, of a program's folder in crates")
     signal.signal(signal.SIGTERM, stop)
     CACHE.mkdir(parents=True, exist_ok=True)
-    program = crate_of(sys.argv[1], {}, lines)
+    program = crates()[sys.argv[1]]
     return 0 if build_all([*program.below.values()]) and program.build_program() else 1
 
 

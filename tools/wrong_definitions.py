@@ -6,13 +6,13 @@
 
 Each file crates/el_model/wrong/NAME.edit has a line 'file:', pairs of lines 'old:' and 'new:', and a line 'run:' with
 the file of crates/computed_runs/proofs that must refuse it, such as Rows/ChainOfTwo. The definitions and that one run
-are copied to a scratch folder as one crate, without any law. As they stand the copy must be proved; with the edit the prover must find
-that the run does not come to what it should, and nothing else wrong in the copy. What other runs and the laws say of the
-edit is not tried. The last line is 'N refused, M failed'. With --check nothing is proved: each old text must stand once
-in its file of crates/el_model.
+are copied to a scratch folder as one crate, without any law. As they stand the copy must be proved; with the edit the
+prover must find that the run does not come to what it should, and nothing else wrong in the copy. What other runs and
+the laws say of the edit is not tried. The last line is 'N refused, M failed'. With --check nothing is proved: each old
+text must stand once in its file of crates/el_model.
 
-The crates below el_model are copied as they are, and rt begins with what it kept of them: run rt check in
-crates/el_model before, or the first check proves them anew.
+The crates below el_model are those that build_program.py keeps, which proves first what it has not kept. Then a check
+takes some ten seconds, and as many run side by side as there are processors and memory holds.
 """
 import pathlib
 import re
@@ -20,10 +20,12 @@ import shutil
 import subprocess
 import sys
 import tempfile
+from concurrent.futures import ThreadPoolExecutor
 
-ROOT = pathlib.Path(__file__).resolve().parent.parent
-MODEL = ROOT / "crates" / "el_model"
-RUNS = ROOT / "crates" / "computed_runs" / "proofs"
+import build_program
+
+MODEL = build_program.ROOT / "crates" / "el_model"
+RUNS = build_program.ROOT / "crates" / "computed_runs" / "proofs"
 LIMIT = 120  # seconds for one check
 
 
@@ -43,34 +45,15 @@ def fields(path):
     return file, run, pairs
 
 
-def make_scratch(folder):
-    """A repository with the crates below el_model as they are."""
-    uses = {}
-    for line in (ROOT / "crates.txt").read_text().splitlines():
-        if not line.startswith("#"):
-            name, _, names = line.partition(":")
-            uses[name] = names.split()
-    needed, waiting = {"el_model"}, ["el_model"]
-    while waiting:
-        new = [name for name in uses[waiting.pop()] if name in uses and name not in needed]
-        needed.update(new)
-        waiting.extend(new)
-    # A run's file names crates whose words el_model has from others.
-    uses["el_model"] += [name for name in uses["computed_runs"] if name in needed - {"el_model", *uses["el_model"]}]
-    (folder / "crates.txt").write_text("".join(f"{name}: {' '.join(uses[name])}\n" for name in uses if name in needed))
-    for crate in needed - {"el_model"}:
-        shutil.copytree(ROOT / "crates" / crate, folder / "crates" / crate, ignore=shutil.ignore_patterns("out"))
-
-
 def place(folder, run):
-    """Puts el_model into the scratch repository: its definitions, and one run."""
+    """Puts into a folder the definitions and one run."""
     group, name = run.split("/")
-    model, proofs = folder / "crates" / "el_model", folder / "crates" / "el_model" / "proofs"
+    proofs = folder / "proofs"
     for part in ("specs", "src", "proofs"):
-        shutil.rmtree(model / part, ignore_errors=True)
-    shutil.copytree(MODEL / "specs", model / "specs")
-    (model / "src").mkdir()
-    (model / "src" / "lib.rt").write_text("//! The definitions alone.\n#![tactic(auto)]\n")
+        shutil.rmtree(folder / part, ignore_errors=True)
+    shutil.copytree(MODEL / "specs", folder / "specs")
+    (folder / "src").mkdir()
+    (folder / "src" / "lib.rt").write_text("//! The definitions alone.\n#![tactic(auto)]\n")
     (proofs / group).mkdir(parents=True)
     modules = [name]
     if (RUNS / group / "Given.antt").exists():
@@ -80,14 +63,20 @@ def place(folder, run):
     for file in ("Computing", "Given", *(f"{group}/{module}" for module in modules)):
         text = (RUNS / f"{file}.antt").read_text()
         (proofs / f"{file}.antt").write_text(text.replace("Rattle.computed_runs.", "Rattle.el_model."))
-    return model
 
 
-def checked(model):
-    """Whether the copy is proved, and what the prover says."""
+def checked(folder, libraries):
+    """Whether what is in a folder is proved, and what the prover says."""
+    check = [build_program.KIT / "bin" / "rattle", "check", "--crate-name", MODEL.name, "src/lib.rt"]
     try:
         done = subprocess.run(
-            ["rt", "check"], cwd=model, text=True, stdout=subprocess.PIPE, stderr=subprocess.STDOUT, timeout=LIMIT
+            [*check, *libraries, *build_program.LOGIC],
+            cwd=folder,
+            text=True,
+            stdin=subprocess.DEVNULL,
+            stdout=subprocess.PIPE,
+            stderr=subprocess.STDOUT,
+            timeout=LIMIT,
         )
     except subprocess.TimeoutExpired:
         return None, "no answer in time"
@@ -103,9 +92,9 @@ def edited(text, pairs):
     return text
 
 
-def applied(model, file, pairs):
+def applied(folder, file, pairs):
     """Whether the edit could be made in the copy."""
-    path = model / file
+    path = folder / file
     text = edited(path.read_text(), pairs)
     if text is not None:
         path.write_text(text)
@@ -120,12 +109,13 @@ def where_refused(out, run):
     return sorted({int(line) for _, line in places})
 
 
-def tried(folder, edit, run, file, pairs):
-    """Whether the edit is refused by its run, and a line that says so."""
-    model = place(folder, run)
-    if not applied(model, file, pairs):
+def tried(folder, libraries, run, edit):
+    """Whether an edit is refused by its run, and a line that says so."""
+    place(folder, run)
+    file, _, pairs = fields(edit)
+    if not applied(folder, file, pairs):
         return False, f"BAD EDIT {edit.stem}: an old text does not stand exactly once in {file}"
-    proved, out = checked(model)
+    proved, out = checked(folder, libraries)
     if proved is None:
         return False, f"NOT TRIED {edit.stem}: {out}"
     if proved:
@@ -136,9 +126,25 @@ def tried(folder, edit, run, file, pairs):
     return True, f"refused {edit.stem}: {run}, line {lines[0]}"
 
 
-def check():
+def tried_by_run(libraries, run, edits):
+    """Of the edits that a run must refuse, how many are refused and how many are not."""
+    with tempfile.TemporaryDirectory() as name:
+        folder = pathlib.Path(name)
+        place(folder, run)
+        proved, out = checked(folder, libraries)
+        if not proved:
+            print(f"NOT PROVED {run} with no edit\n{out}", flush=True)
+            return 0, len(edits)
+        refused = 0
+        for edit in edits:
+            is_refused, line = tried(folder, libraries, run, edit)
+            print(line, flush=True)
+            refused += is_refused
+        return refused, len(edits) - refused
+
+
+def check(edits):
     """Tells how many edits can be made in the definitions as they stand, and names those that cannot."""
-    edits = sorted((MODEL / "wrong").glob("*.edit"))
     stale = []
     for edit in edits:
         file, _, pairs = fields(edit)
@@ -150,27 +156,23 @@ def check():
 
 
 def main():
+    edits = sorted((MODEL / "wrong").glob("*.edit"))
     if sys.argv[1:] == ["--check"]:
-        return check()
+        return check(edits)
     by_run = {}
-    for edit in sorted((MODEL / "wrong").glob("*.edit")):
+    for edit in edits:
         if len(sys.argv) == 1 or edit.stem in sys.argv[1:]:
-            file, run, pairs = fields(edit)
-            by_run.setdefault(run, []).append((edit, file, pairs))
-    refused, failed = 0, 0
-    with tempfile.TemporaryDirectory() as name:
-        folder = pathlib.Path(name)
-        make_scratch(folder)
-        for run, edits in sorted(by_run.items()):
-            proved, out = checked(place(folder, run))
-            if not proved:
-                print(f"NOT PROVED {run} with no edit\n{out}", flush=True)
-                failed += len(edits)
-                continue
-            for edit, file, pairs in edits:
-                is_refused, line = tried(folder, edit, run, file, pairs)
-                print(line, flush=True)
-                refused, failed = refused + is_refused, failed + (not is_refused)
+            by_run.setdefault(fields(edit)[1], []).append(edit)
+    model = build_program.crates()[MODEL.name]
+    # A run's file names crates whose words el_model has from others.
+    model.uses = [*model.below.values()]
+    build_program.CACHE.mkdir(parents=True, exist_ok=True)
+    if not build_program.build_all(model.uses):
+        return 1
+    libraries = [*model.libraries()]
+    with ThreadPoolExecutor(build_program.as_many_as_fit()) as pool:
+        counts = [*pool.map(lambda run: tried_by_run(libraries, run, by_run[run]), sorted(by_run))]
+    refused, failed = sum(it[0] for it in counts), sum(it[1] for it in counts)
     print(f"{refused} refused, {failed} failed")
     return 1 if failed or not refused else 0
 

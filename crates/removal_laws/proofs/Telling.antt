@@ -83,6 +83,23 @@ module _ (state : ModelState) (h origin : ℕ) (others : List Message)
   still_in message sent =
       subst (λ box. has_message box message ≡ true) (sym mail) (later_there (Probe origin) others message sent)
 
+  -- it is linked as before, whatever it has been told
+  abbrev without_probe : List ℕ → Hart
+  without_probe told = record (hart_of state h) { mail = others; told = told }
+
+  links : (told : List ℕ) (before : ℕ) → IsLinked (hart_of state h) before → IsLinked (without_probe told) before
+  links told before (inl sent) = of_marker (in_box (Marker before) sent)
+    where
+      of_marker : (Probe origin ≡ Marker before) ⊎ (has_message others (Marker before) ≡ true) →
+          IsLinked (without_probe told) before
+      of_marker (inl wrong) = absurd (cc)
+      of_marker (inr later) = inl later
+  links told before (inr is) = inr is
+
+  linked : (told : List ℕ) (before : ℕ) → IsLinked (without_probe told) before → IsLinked (hart_of state h) before
+  linked told before (inl sent) = inl (still_in (Marker before) sent)
+  linked told before (inr is) = inr is
+
   -- an origin that the hart was told of already
   took_known : has (hart_of state h).told origin ≡ true →
       Took NoEntry NoEntry state h (hart_of state h) (record (hart_of state h) { mail = others })
@@ -90,8 +107,8 @@ module _ (state : ModelState) (h origin : ℕ) (others : List Message)
     raised = refl;
     attempt = refl;
     seen = omega arith;
-    links = λ before is. links before is;
-    linked = λ before is. linked before is;
+    links = links (hart_of state h).told;
+    linked = linked (hart_of state h).told;
     knows = λ other is. knows other is;
     known = λ other is. inl (known other is);
     upstream = λ before is. inl is;
@@ -101,19 +118,6 @@ module _ (state : ModelState) (h origin : ℕ) (others : List Message)
     where
       new : Hart
       new = record (hart_of state h) { mail = others }
-
-      of_marker : (before : ℕ) → (Probe origin ≡ Marker before) ⊎ (has_message others (Marker before) ≡ true) →
-          IsLinked new before
-      of_marker before (inl wrong) = absurd (cc)
-      of_marker before (inr later) = inl later
-
-      links : (before : ℕ) → IsLinked (hart_of state h) before → IsLinked new before
-      links before (inl sent) = of_marker before (in_box (Marker before) sent)
-      links before (inr is) = inr is
-
-      linked : (before : ℕ) → IsLinked new before → IsLinked (hart_of state h) before
-      linked before (inl sent) = inl (still_in (Marker before) sent)
-      linked before (inr is) = inr is
 
       of_probe : (other : ℕ) → (Probe origin ≡ Probe other) ⊎ (has_message others (Probe other) ≡ true) →
           Knows new other
@@ -155,8 +159,8 @@ module _ (state : ModelState) (h origin : ℕ) (others : List Message)
     raised = refl;
     attempt = refl;
     seen = omega arith;
-    links = λ before is. links before is;
-    linked = λ before is. linked before is;
+    links = links (included (hart_of state h).told origin);
+    linked = linked (included (hart_of state h).told origin);
     knows = λ other is. knows other is;
     known = λ other is. inl (known other is);
     upstream = λ before is. inl is;
@@ -166,19 +170,6 @@ module _ (state : ModelState) (h origin : ℕ) (others : List Message)
     where
       new : Hart
       new = record (hart_of state h) { mail = others; told = included (hart_of state h).told origin }
-
-      of_marker : (before : ℕ) → (Probe origin ≡ Marker before) ⊎ (has_message others (Marker before) ≡ true) →
-          IsLinked new before
-      of_marker before (inl wrong) = absurd (cc)
-      of_marker before (inr later) = inl later
-
-      links : (before : ℕ) → IsLinked (hart_of state h) before → IsLinked new before
-      links before (inl sent) = of_marker before (in_box (Marker before) sent)
-      links before (inr is) = inr is
-
-      linked : (before : ℕ) → IsLinked new before → IsLinked (hart_of state h) before
-      linked before (inl sent) = inl (still_in (Marker before) sent)
-      linked before (inr is) = inr is
 
       of_probe : (other : ℕ) → (Probe origin ≡ Probe other) ⊎ (has_message others (Probe other) ≡ true) →
           Knows new other

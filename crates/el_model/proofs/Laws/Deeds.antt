@@ -17,7 +17,7 @@ use Rattle.el_model.specs.Armed.{quiet_rule, shown_armed}
 use Rattle.el_model.specs.Conflicts.{is_wanted_to_write}
 use Rattle.el_model.specs.Deed as deeds
 use Rattle.el_model.specs.Deed.{GoesFurther, GoesOn, HasRoom, IsArmed, IsDeed, IsElidable, IsInside, IsOutside}
-use Rattle.el_model.specs.Deed.{IsReserving, IsShort, MustRollBack}
+use Rattle.el_model.specs.Deed.{IsPermitted, IsReserving, IsShort, MustRollBack}
 use Rattle.el_model.specs.Deed.{WantsBit, is_open, is_refused, permits}
 use Rattle.el_model.specs.InSection as inside
 use Rattle.el_model.specs.InSection.{SectionRule, bit_rule, by_section_rule, is_covered, is_full, section_turn}
@@ -70,35 +70,30 @@ record Ordinary (state : ModelState) (h : ℕ) : Type 0 where
   unelided : (swap : Swap) → IsElidable state h swap → changes_word swap ≡ false
   unarming : (word : ℕ) → IsReserving state h word → is_open state h word ≡ false
 
-touch_deed : (state : ModelState) (h : ℕ) → IsOutside state h → Ordinary state h → (touch : Option Touch) →
-    next_touch state.committed h ≡ touch → Outside state h (outside.touch_rule state h touch)
+-- an instruction by this touch, which the hart may make
+run_deed : (state : ModelState) (h : ℕ) → IsOutside state h → Ordinary state h → (touch : Option Touch) →
+    next_touch state.committed h ≡ touch → IsPermitted state h touch → Outside state h (outside.Runs touch)
 unfolding by_plain_rule
-touch_deed state h out ordinary None is = record {
-  deed = deeds.Runs None;
+run_deed state h out ordinary touch is may = record {
+  deed = deeds.Runs touch;
   where_it =
       record {
         outside = out;
         unelided = ordinary.unelided;
         unarming = ordinary.unarming;
         touches = is;
-        permitted = tt;
+        permitted = may;
       };
   turn_is = refl;
 }
+
+touch_deed : (state : ModelState) (h : ℕ) → IsOutside state h → Ordinary state h → (touch : Option Touch) →
+    next_touch state.committed h ≡ touch → Outside state h (outside.touch_rule state h touch)
+unfolding by_plain_rule
+touch_deed state h out ordinary None is = run_deed state h out ordinary None is tt
 touch_deed state h out ordinary (Some touch) is =
     by_test (Outside state h) (permits state h touch) (outside.Runs (Some touch)) (outside.Misses touch.line touch.need)
-    (λ may. record {
-      deed = deeds.Runs (Some touch);
-      where_it =
-          record {
-            outside = out;
-            unelided = ordinary.unelided;
-            unarming = ordinary.unarming;
-            touches = is;
-            permitted = may;
-          };
-      turn_is = refl;
-    })
+    (run_deed state h out ordinary (Some touch) is)
     (λ refused. record {
       deed = deeds.Misses touch.line touch.need;
       where_it = inl (record { outside = out; why = inl (record { touches = is; refused = refused }) });

@@ -1,11 +1,14 @@
 -- A walk over the lines of memory.
 use Rattle.std.proofs.Common.{◌≡◌, ◌≢◌, ℕ, zero, suc, ◌+◌, ◌-◌, ◌*◌, ◌/◌, ◌%◌, ◌≤◌, ◌<◌, true, false, ◌==◌, List, []}
-use Rattle.std.proofs.Common.{◌∷◌, length, Option, Some, None, refl, sym, ap, subst, ◌∙◌, arith, inl, inr}
+use Rattle.std.proofs.Common.{◌∷◌, length, min, Option, Some, None, refl, sym, ap, subst, ◌∙◌, arith, inl, inr}
 use Rattle.std.specs.Prelude.{slice_index}
+use Rattle.std.proofs.Math.ListN.{get_or}
 use Rattle.std.proofs.lemmas.Bool.{cases_lt}
 use Rattle.std.proofs.lemmas.Bool.Decides.{nat_tests}
+use Rattle.std.proofs.lemmas.List.{get_or_read}
 use Rattle.el_base.specs.Line.{line_number}
-use Rattle.elf_image.specs.Program.{Program}
+use Rattle.el_base.specs.LineAddr.{line_addr}
+use Rattle.elf_image.specs.Program.{IsProgram, Program}
 use Rattle.rv_flat.specs.Memory.{byte_in}
 use Rattle.run_check.specs.Check.{byte_from, patch_of_line, said_byte, IsInside, LineHolds}
 use Rattle.run_check.specs.Rules.{line_wrong}
@@ -54,11 +57,6 @@ none_found (patch ∷ lines) line others =
     rw no (none_found lines line (λ i low. others (suc i) (omega arith)))
 
 -- ---- one line
-
--- where memory has whole lines
-pub record HasLines (program : Program) : Type 0 where
-  pub base : program.base % 64 ≡ 0
-  pub size : length program.bytes % 64 ≡ 0
 
 said_none : (program : Program) (lines : List Patch) (address line : ℕ) → line_number address ≡ line →
     patch_of_line lines line ≡ None → said_byte program lines address ≡ byte_in program.base program.bytes address
@@ -122,6 +120,12 @@ patch_line_fails program lines memory line index patch some inside low differ ho
 pub outside_line_fails : (program : Program) (lines : List Patch) (memory : List ℕ) (line : ℕ) (patch : Patch) →
     patch_of_line lines line ≡ Some patch → ¬ IsInside program (64 * line) → ¬ LineHolds program lines memory line
 outside_line_fails program lines memory line patch some outside holds = outside (holds.inside patch some)
+
+-- the last line of memory ends where memory does
+pub last_line_ends : (program : Program) (base : ℕ) (bytes : List ℕ) → IsProgram program → base ≡ program.base →
+    bytes ≡ program.bytes → 64 * (base / 64 + length bytes / 64) ≡ program.base + length program.bytes
+last_line_ends program base bytes whole base_is bytes_are =
+    omega (arith, base_is, ap length bytes_are, whole.base_on_line, whole.length_on_line)
 
 -- ---- the walk
 
@@ -203,6 +207,15 @@ pub record At (lines : List Patch) (index line : ℕ) (patch : Patch) : Type 0 w
   pub is : patch_in lines index ≡ patch
   pub number : patch.line.number ≡ line
 
+-- the line of the certificate at an index
+pub at_item : (lines : List Patch) (index : ℕ) (patch : Patch) → index < length lines →
+    patch ≡ get_or lines index patch → At lines index patch.line.number patch
+at_item lines index patch within is = record {
+  within = within;
+  is = sym (get_or_read lines index patch within is (record { line = line_addr 0; bytes = [] }));
+  number = refl;
+}
+
 number_at_index : {lines : List Patch} {index line : ℕ} {patch : Patch} → At lines index line patch →
     line_in lines index ≡ line
 number_at_index a = ap (λ (p : Patch). p.line.number) a.is ∙ a.number
@@ -275,24 +288,22 @@ stops_before {lines} {index} {line} program memory next to found w up a near end
 
 below_line : {lines : List Patch} {index line : ℕ} {patch : Patch} (program : Program) (memory : List ℕ)
     (next to end : ℕ) → Walked program lines memory index next → Ascends lines → At lines index line patch →
-    64 * end ≡ program.base + length program.bytes →
-    ((address : ℕ) → address < 64 * line → address < 64 * end → address < 64 * to) →
+    64 * end ≡ program.base + length program.bytes → to ≡ min line end →
     IsImage program memory next to → (k : ℕ) → k < line → LineHolds program lines memory k
-below_line {lines} {index} {line} program memory next to end w up a is far same =
+below_line {lines} {index} {line} program memory next to end w up a is least same =
     walk_to program lines memory index next line w (from_index up a)
-    (λ address from until inside. let b = inside.1 in same address from (far address until (omega arith)))
+    (λ address from until inside. let b = inside.1 in same address from (omega (arith, least)))
 
 -- a line of the certificate behind memory
 pub behind_memory : {lines : List Patch} {index line : ℕ} {patch : Patch} (program : Program) (memory : List ℕ)
     (next to end : ℕ) → Walked program lines memory index next → Ascends lines → At lines index line patch →
-    64 * end ≡ program.base + length program.bytes →
-    ((address : ℕ) → address < 64 * line → address < 64 * end → address < 64 * to) →
+    64 * end ≡ program.base + length program.bytes → to ≡ min line end →
     IsImage program memory next to → end ≤ line →
     (¬ LineHolds program lines memory line) × ((k : ℕ) → k < line → LineHolds program lines memory k)
-behind_memory {lines} {index} {line} {patch} program memory next to end w up a is far same over = (
+behind_memory {lines} {index} {line} {patch} program memory next to end w up a is least same over = (
   outside_line_fails program lines memory line patch (found_at up a)
       (λ inside. let b = inside.1 in absurd (omega arith)),
-  below_line program memory next to end w up a is far same,
+  below_line program memory next to end w up a is least same,
 )
 
 pub on_or_above : {program : Program} {lines : List Patch} {memory : List ℕ} {index next line : ℕ} {patch : Patch} →
@@ -303,27 +314,25 @@ on_or_above {lines = lines} {index = index} w a = let above = w.above index a.wi
 -- a line of the certificate that memory has not
 pub other_line : {lines : List Patch} {index line : ℕ} {patch : Patch} (program : Program) (memory : List ℕ)
     (next to end at : ℕ) → Walked program lines memory index next → Ascends lines → At lines index line patch →
-    64 * end ≡ program.base + length program.bytes →
-    ((address : ℕ) → address < 64 * line → address < 64 * end → address < 64 * to) →
+    64 * end ≡ program.base + length program.bytes → to ≡ min line end →
     IsImage program memory next to → line < end → at < 64 →
     byte_in program.base memory (64 * line + at) ≢ slice_index patch.bytes at →
     (¬ LineHolds program lines memory line) × ((k : ℕ) → k < line →
     LineHolds program lines memory k)
-other_line {lines} {index} {line} {patch} program memory next to end at w up a is far same under low differ =
+other_line {lines} {index} {line} {patch} program memory next to end at w up a is least same under low differ =
     let above = on_or_above w a in (
       patch_line_fails program lines memory line at patch (found_at up a) (omega arith, omega arith) low differ,
-      below_line program memory next to end w up a is far same,
+      below_line program memory next to end w up a is least same,
     )
 
 -- a line of the certificate that memory has
 pub walk_on : {lines : List Patch} {index line : ℕ} {patch : Patch} (program : Program) (memory : List ℕ)
     (next to end : ℕ) → Walked program lines memory index next → Ascends lines → At lines index line patch →
-    64 * end ≡ program.base + length program.bytes →
-    ((address : ℕ) → address < 64 * line → address < 64 * end → address < 64 * to) →
+    64 * end ≡ program.base + length program.bytes → to ≡ min line end →
     IsImage program memory next to → line < end →
     ((at : ℕ) → at < 64 → byte_in program.base memory (64 * line + at) ≡ slice_index patch.bytes at) →
     Walked program lines memory (index + 1) (line + 1)
-walk_on {lines} {index} {line} {patch} program memory next to end w up a is far same under bytes =
+walk_on {lines} {index} {line} {patch} program memory next to end w up a is least same under bytes =
     let above = on_or_above w a in
     record {
       from_base = omega arith;
@@ -331,7 +340,7 @@ walk_on {lines} {index} {line} {patch} program memory next to end w up a is far 
       below =
           λ k low.
           elim (cases_lt k line) [
-            | inl before ↦ below_line program memory next to end w up a is far same k before
+            | inl before ↦ below_line program memory next to end w up a is least same k before
             | inr past ↦
                 let this : line ≡ k = omega arith in
                 subst (LineHolds program lines memory) this

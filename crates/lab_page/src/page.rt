@@ -10,7 +10,7 @@ use crate::style::STYLE;
 use el_base::{Config, NoMemory};
 use elf_symbols::Symbols;
 use lab::{Fact, PlainSwap, Try};
-use lab_tables::{LineRow, LockKind, LockRow, line_rows, lock_rows};
+use lab_tables::{LockKind, line_rows, lock_rows};
 use std::alloc::Global;
 
 /// What a page tells of.
@@ -48,7 +48,7 @@ pub fn write_page(
     put_locks(alloc, out, run, symbols)?;
     out.push_str("<h2>Lines</h2>\n")?;
     let rows = line_rows(alloc, run.facts)?;
-    put_table(alloc, out, &LineRow::nothing(), &rows, symbols)?;
+    put_table(alloc, out, &rows, symbols)?;
     out.push_str("</body>\n</html>\n")?;
     Ok(())
 }
@@ -113,5 +113,5 @@ fn put_locks(alloc: Global, out: &mut String, run: &Run, symbols: &Symbols) -> R
     let mut rows = lock_rows(alloc, LockKind::Take, run.takes, run.swaps)?;
     let releases = lock_rows(alloc, LockKind::Release, run.releases, &[])?;
     rows.extend_from_slice(&releases)?;
-    put_table(alloc, out, &LockRow::nothing(), &rows, symbols)
+    put_table(alloc, out, &rows, symbols)
 }

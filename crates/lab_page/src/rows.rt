@@ -14,11 +14,10 @@ const MOST_ROWS: usize = 200;
 pub(crate) fn put_table<R: Row>(
     alloc: Global,
     out: &mut String,
-    nothing: &R,
     rows: &[R],
     symbols: &Symbols,
 ) -> Result<(), NoMemory> {
-    let names = nothing.columns(alloc)?;
+    let names = R::nothing().columns(alloc)?;
     let mut says = Vec::new(alloc);
     for _ in &names {
         says.push(false)?;

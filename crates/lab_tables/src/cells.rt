@@ -28,7 +28,10 @@ pub enum Cell {
 }
 
 /// A row of a table.
-pub trait Row {
+pub trait Row: Copy {
+    /// A row that says nothing.
+    fn nothing() -> Self;
+
     /// What the row shows, the first column first: the same columns of every row.
     fn columns(&self, alloc: Global) -> Result<Vec<Column>, NoMemory>;
 }

@@ -19,5 +19,4 @@ pub use cells::{Cell, CellText, Column, Row};
 pub use info::write_info;
 pub use lines::{Beats, LineRow, line_rows};
 pub use locks::{LockKind, LockRow, PlainRuns, lock_rows};
-pub use tables::{write_lines, write_locks};
 pub use writing::write_table;

@@ -1,37 +1,12 @@
-//! The tables of `locks` and `lines`, and what their columns are.
+//! The columns of the tables of `locks` and `lines`.
 
 use crate::cells::{Cell, Column, Row};
 use crate::lines::LineRow;
 use crate::locks::{LockKind, LockRow, PlainRuns};
-use crate::writing::write_table;
 use chronicle::Tally;
 use el_base::{LINE_BYTES, LineAddr, MAX_HARTS, NoMemory};
-use elf_symbols::Symbols;
 use lab::Acquire;
-use lab_words::Layout;
 use std::alloc::Global;
-
-/// Writes the table of `locks`.
-pub fn write_locks(
-    alloc: Global,
-    out: &mut String,
-    rows: &[LockRow],
-    symbols: &Symbols,
-    layout: Layout,
-) -> Result<(), NoMemory> {
-    write_table(alloc, out, &LockRow::nothing(), rows, symbols, layout)
-}
-
-/// Writes the table of `lines`.
-pub fn write_lines(
-    alloc: Global,
-    out: &mut String,
-    rows: &[LineRow],
-    symbols: &Symbols,
-    layout: Layout,
-) -> Result<(), NoMemory> {
-    write_table(alloc, out, &LineRow::nothing(), rows, symbols, layout)
-}
 
 impl LockKind {
     /// The word of the kind in a table.
@@ -43,9 +18,8 @@ impl LockKind {
     }
 }
 
-impl LockRow {
-    /// A row that says nothing.
-    pub fn nothing() -> LockRow {
+impl Row for LockRow {
+    fn nothing() -> LockRow {
         LockRow {
             kind: LockKind::Take,
             acquire: Acquire { pc: 0, word: 0 },
@@ -60,9 +34,7 @@ impl LockRow {
             },
         }
     }
-}
 
-impl Row for LockRow {
     fn columns(&self, alloc: Global) -> Result<Vec<Column>, NoMemory> {
         let Tally {
             began,
@@ -113,9 +85,8 @@ impl Row for LockRow {
     }
 }
 
-impl LineRow {
-    /// A row that says nothing.
-    pub fn nothing() -> LineRow {
+impl Row for LineRow {
+    fn nothing() -> LineRow {
         LineRow {
             line: LineAddr { number: 0 },
             missed_reads: 0,
@@ -126,9 +97,7 @@ impl LineRow {
             beats: [[0; MAX_HARTS as usize]; MAX_HARTS as usize],
         }
     }
-}
 
-impl Row for LineRow {
     fn columns(&self, alloc: Global) -> Result<Vec<Column>, NoMemory> {
         let address = self.line.number * LINE_BYTES;
         let columns = vec![in alloc;

@@ -16,12 +16,11 @@ use std::alloc::Global;
 pub fn write_table<R: Row>(
     alloc: Global,
     out: &mut String,
-    nothing: &R,
     rows: &[R],
     symbols: &Symbols,
     layout: Layout,
 ) -> Result<(), NoMemory> {
-    let names = nothing.columns(alloc)?;
+    let names = R::nothing().columns(alloc)?;
     match layout {
         Layout::Text => write_text(alloc, out, &names, rows, symbols),
         Layout::Json => write_json(alloc, out, rows, symbols),

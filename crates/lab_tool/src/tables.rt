@@ -15,7 +15,7 @@ use el_io::{Shelf, Sink, put_all};
 use elf_symbols::Symbols;
 use lab::{Fact, Parted, PlainSwap, part_releases, watch};
 use lab_page::{Run, write_page};
-use lab_tables::{LockKind, LockRow, line_rows, lock_rows, write_info, write_lines, write_locks};
+use lab_tables::{LockKind, LockRow, Row, line_rows, lock_rows, write_info, write_table};
 use lab_words::{Layout, Traced};
 use machine::Machine;
 use std::alloc::Global;
@@ -109,13 +109,7 @@ fn put_locks<'a, O: Sink>(
     requires few { length followed.now.sections.takes.items + length followed.now.sections.releases.items ≤ MAX_STEPS }
 {
     let rows = all_lock_rows(alloc, followed)?;
-    let mut text = String::new(alloc);
-    if rows.is_empty() && layout == Layout::Text {
-        text.push_str("no acquire\n")?;
-    } else {
-        write_locks(alloc, &mut text, &rows, &followed.symbols, layout)?;
-    }
-    put_all(out, text.as_bytes())?;
+    put_rows(alloc, out, &rows, "no acquire\n", &followed.symbols, layout)?;
     if layout == Layout::Text {
         put_waits(alloc, out, &followed.machine, &followed.symbols)?;
     }
@@ -145,11 +139,23 @@ fn put_lines<'a, O: Sink>(
     layout: Layout,
 ) -> Result<(), Stop<'a>> {
     let rows = line_rows(alloc, &followed.facts)?;
+    put_rows(alloc, out, &rows, "no line\n", &followed.symbols, layout)
+}
+
+/// Puts rows as a table, and in a table to be read, where there are none, the words that say so.
+fn put_rows<'a, R: Row, O: Sink>(
+    alloc: Global,
+    out: &mut O,
+    rows: &[R],
+    none: &str,
+    symbols: &Symbols,
+    layout: Layout,
+) -> Result<(), Stop<'a>> {
     let mut text = String::new(alloc);
     if rows.is_empty() && layout == Layout::Text {
-        text.push_str("no line\n")?;
+        text.push_str(none)?;
     } else {
-        write_lines(alloc, &mut text, &rows, &followed.symbols, layout)?;
+        write_table(alloc, &mut text, rows, symbols, layout)?;
     }
     put_all(out, text.as_bytes())?;
     Ok(())

@@ -1,9 +1,10 @@
-//! A file of three sections, made by a script, in which GNU readelf 2.40 reads `_start` at 0x10010 and `lock` at 0x10540.
+//! Addresses by the names of their symbols.
 use elf_symbols::{Symbols, read_symbols};
 use lab_names::Named;
 use std::test::Fail;
 
-const FILE: [u8; 236] = [
+/// A file of three sections, made by a script, in which GNU readelf 2.40 reads `_start` at 0x10010 and `lock` at 0x10540.
+pub(super) const NAMED: [u8; 236] = [
     0x7f, 0x45, 0x4c, 0x46, 0x01, 0x01, 0x01, 0x00, 0x00, 0x00, 0x00, 0x00, 0x00, 0x00, 0x00, 0x00,
     0x02, 0x00, 0xf3, 0x00, 0x01, 0x00, 0x00, 0x00, 0x10, 0x00, 0x01, 0x00, 0x00, 0x00, 0x00, 0x00,
     0x34, 0x00, 0x00, 0x00, 0x00, 0x00, 0x00, 0x00, 0x34, 0x00, 0x00, 0x00, 0x00, 0x00, 0x28, 0x00,
@@ -23,7 +24,7 @@ const FILE: [u8; 236] = [
 
 #[test]
 fn an_address_has_its_nearest_symbol_behind_it(rt: HostRuntime) -> Result<(), Fail> {
-    let symbols = read_symbols(rt.alloc(), &FILE).map_err(|_| "no symbols")?;
+    let symbols = read_symbols(rt.alloc(), &NAMED).map_err(|_| "no symbols")?;
     let rows: [(u32, &str); 6] = [
         (0, "00000000"),
         (0x1_000f, "0001000f"),

@@ -194,7 +194,7 @@ fn locks_are_laid_out(rt: HostRuntime) -> Result<(), Fail> {
     let symbols = Symbols::none(alloc);
     for (layout, text) in &LOCKS {
         let mut out = String::new(alloc);
-        write_locks(alloc, &mut out, &wanted_locks(), &symbols, *layout)?;
+        write_table(alloc, &mut out, &wanted_locks(), &symbols, *layout)?;
         assert_eq!(rt; out.as_str(), *text);
     }
     Ok(())
@@ -235,7 +235,7 @@ fn lines_are_laid_out(rt: HostRuntime) -> Result<(), Fail> {
     row.beats[2][5] = 31;
     for (layout, text) in &LINES {
         let mut out = String::new(alloc);
-        write_lines(alloc, &mut out, &[row], &symbols, *layout)?;
+        write_table(alloc, &mut out, &[row], &symbols, *layout)?;
         assert_eq!(rt; out.as_str(), *text);
     }
     Ok(())
@@ -257,6 +257,10 @@ struct OfOneWord {
 }
 
 impl Row for OfOneWord {
+    fn nothing() -> OfOneWord {
+        OfOneWord { word: "" }
+    }
+
     fn columns(&self, alloc: Global) -> Result<Vec<Column>, NoMemory> {
         let mut columns = Vec::new(alloc);
         columns.push(Column {
@@ -274,14 +278,7 @@ fn marks_are_escaped(rt: HostRuntime) -> Result<(), Fail> {
         let word = OfOneWord { word: *word };
         let mut out = String::new(alloc);
         for layout in [Layout::Json, Layout::Csv] {
-            write_table(
-                alloc,
-                &mut out,
-                &word,
-                &[word],
-                &Symbols::none(alloc),
-                layout,
-            )?;
+            write_table(alloc, &mut out, &[word], &Symbols::none(alloc), layout)?;
         }
         let wanted = format!(in alloc; "{{\"word\":{json}}}\nword\r\n{csv}\r\n")?;
         assert_eq!(rt; out.as_str(), wanted.as_str());

@@ -1,5 +1,6 @@
 pub mod Below
 pub mod Config
+pub mod ConfigFaults
 pub mod Firsts
 pub mod Freed
 pub mod HartId
@@ -11,4 +12,5 @@ pub mod Losers
 pub mod Modes
 pub mod NibblePairs
 pub mod Nibbles
+pub mod Numbered
 pub mod Winners

@@ -3,6 +3,7 @@ ghost use Rattle.el_base.specs.Config.{allows, config_fault, field_fault, usual,
 ghost use Rattle.el_base.specs.Modes.{mode_number, mode_of, mode_word};
 
 use crate::hart_id::MAX_HARTS;
+use crate::numbered::Numbered;
 
 /// The most events of a run.
 pub const MAX_STEPS: u32 = 16_777_216;
@@ -120,6 +121,42 @@ fn is_within(low: u32, high: u32, number: u32) -> bool
     ensures { result ≡ within low high number }
 {
     (low..=high).contains(&number)
+}
+
+impl Numbered for ConfigFault {
+    ghost use Rattle.el_base.specs.ConfigFaults as faults;
+
+    ghost kinds = { faults.config_faults };
+
+    ghost number_of = { faults.number_of };
+
+    ghost name_of = { faults.name_of };
+
+    fn all() -> &'static [ConfigFault] {
+        &[
+            ConfigFault::Harts,
+            ConfigFault::Sets,
+            ConfigFault::Ways,
+            ConfigFault::Lines,
+            ConfigFault::Long,
+            ConfigFault::Steps,
+        ]
+    }
+
+    fn number(self) -> u8 {
+        self as u8
+    }
+
+    fn name(self) -> &'static str {
+        match self {
+            ConfigFault::Harts => "Harts",
+            ConfigFault::Sets => "Sets",
+            ConfigFault::Ways => "Ways",
+            ConfigFault::Lines => "Lines",
+            ConfigFault::Long => "Long",
+            ConfigFault::Steps => "Steps",
+        }
+    }
 }
 
 impl ConfigFault {

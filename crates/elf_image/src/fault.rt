@@ -1,10 +1,6 @@
 //! What is wrong with a file that is no image.
 
-ghost use Rattle.std.specs.Prelude.{◌≡◌};
-ghost use Rattle.std.specs.Option.{option_copied};
-ghost use Rattle.elf_image.specs.FaultKinds as kinds;
-
-use el_base::FileFault;
+use el_base::{FormatFault, Numbered};
 
 /// The sixteen faults of an image in the order in which they are judged. Their numbers, names and order
 /// are this project's.
@@ -44,38 +40,41 @@ pub enum FaultKind {
     Empty,
 }
 
-impl FaultKind {
-    /// All kinds, in the order of their numbers.
-    const ALL: [FaultKind; 16] = [
-        FaultKind::Short,
-        FaultKind::Magic,
-        FaultKind::Class,
-        FaultKind::ByteOrder,
-        FaultKind::Version,
-        FaultKind::FileKind,
-        FaultKind::Machine,
-        FaultKind::Flags,
-        FaultKind::Table,
-        FaultKind::Dynamic,
-        FaultKind::Segment,
-        FaultKind::Overlap,
-        FaultKind::TooWide,
-        FaultKind::TooHigh,
-        FaultKind::Entry,
-        FaultKind::Empty,
-    ];
+impl Numbered for FaultKind {
+    ghost use Rattle.elf_image.specs.FaultKinds as faults;
 
-    /// The number of the kind, from 1 to 16.
-    pub fn number(self) -> u8
-        ensures { result ≡ kinds.number_of self }
-    {
+    ghost kinds = { faults.fault_kinds };
+
+    ghost number_of = { faults.number_of };
+
+    ghost name_of = { faults.name_of };
+
+    fn all() -> &'static [FaultKind] {
+        &[
+            FaultKind::Short,
+            FaultKind::Magic,
+            FaultKind::Class,
+            FaultKind::ByteOrder,
+            FaultKind::Version,
+            FaultKind::FileKind,
+            FaultKind::Machine,
+            FaultKind::Flags,
+            FaultKind::Table,
+            FaultKind::Dynamic,
+            FaultKind::Segment,
+            FaultKind::Overlap,
+            FaultKind::TooWide,
+            FaultKind::TooHigh,
+            FaultKind::Entry,
+            FaultKind::Empty,
+        ]
+    }
+
+    fn number(self) -> u8 {
         self as u8
     }
 
-    /// The name of the kind, as a refusal has it.
-    pub fn name(self) -> &'static str
-        ensures { result.now ≡ kinds.name_of self }
-    {
+    fn name(self) -> &'static str {
         match self {
             FaultKind::Short => "Short",
             FaultKind::Magic => "Magic",
@@ -95,25 +94,6 @@ impl FaultKind {
             FaultKind::Empty => "Empty",
         }
     }
-
-    /// The fault of this kind that a place of the file shows.
-    pub(crate) fn at(self, place: u32) -> FileFault
-        ensures { result ≡ kinds.fault_of self place }
-    {
-        FileFault {
-            number: self.number(),
-            place,
-        }
-    }
 }
 
-/// The name of the fault that has a number, or none where no fault has it: a number that is not from 1
-/// to 16.
-pub fn fault_name(number: u8) -> Option<&'static str>
-    ensures { option_copied result ≡ kinds.fault_name number }
-{
-    FaultKind::ALL
-        .iter()
-        .find(|kind| kind.number() == number)
-        .map(|kind| kind.name())
-}
+impl FormatFault for FaultKind {}

@@ -10,7 +10,7 @@ use crate::bytes::{half_at, push_halves, push_words, word_at};
 use crate::fault::FaultKind;
 use crate::limits::PROGRAM_HEADER_LIMIT;
 use crate::program_header::PROGRAM_HEADER_LEN;
-use el_base::{FileFault, NoMemory};
+use el_base::{FileFault, FormatFault, NoMemory};
 
 /// The bytes of an ELF header of class ELFCLASS32.
 pub const FILE_HEADER_LEN: usize = 52;

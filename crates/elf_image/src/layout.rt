@@ -9,7 +9,7 @@ use crate::fault::FaultKind;
 use crate::header::{E_ENTRY, E_PHNUM, E_PHOFF};
 use crate::limits::{MEMORY_END_LIMIT, MEMORY_LIMIT, STACK_BYTES};
 use crate::program_header::ProgramHeader;
-use el_base::{FileFault, LINE_BYTES};
+use el_base::{FileFault, FormatFault, LINE_BYTES};
 
 /// The bytes of a line of memory. Memory begins and ends on a line.
 const LINE: u64 = LINE_BYTES as u64;

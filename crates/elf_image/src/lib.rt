@@ -5,8 +5,8 @@
 //! file, and gives the one [`Image`] that `program_of` fixes where there is none. Both definitions
 //! stand in `specs/`, over the whole file and with sums that do not wrap; the code reads the headers
 //! once, field by field. No memory is taken before every fault is judged, nothing is read outside the
-//! file, and [`Image::code_word`] takes none at all. A fault is a number and a place; [`fault_name`]
-//! has its name.
+//! file, and [`Image::code_word`] takes none at all. A fault is a number and a place; [`FaultKind`] has
+//! the numbers and names.
 //!
 //! [`write_image`] goes the other way: from words and data, which are [`Built`], to a file without a
 //! fault, of which every number of harts loads what was built.
@@ -34,7 +34,7 @@ mod writer;
 pub use built::Built;
 pub use code::Code;
 pub use code_segment::CodeSegment;
-pub use fault::{FaultKind, fault_name};
+pub use fault::FaultKind;
 pub use image::Image;
 pub use limits::{
     BUILT_END_LIMIT, BUILT_LIMIT, IMAGE_FILE_LIMIT, MEMORY_END_LIMIT, MEMORY_LIMIT, PAGE_BYTES,

@@ -9,7 +9,7 @@ ghost use Rattle.elf_image.specs.Faults.{load_fault};
 
 use crate::bytes::{push_words, word_at};
 use crate::fault::FaultKind;
-use el_base::{FileFault, NoMemory};
+use el_base::{FileFault, FormatFault, NoMemory};
 
 /// The bytes of a program header.
 pub const PROGRAM_HEADER_LEN: usize = 32;

@@ -10,7 +10,7 @@ use crate::fault::FaultKind;
 use crate::limits::PROGRAM_HEADER_LIMIT;
 use crate::program_header::{PROGRAM_HEADER_LEN, ProgramHeader};
 use arrayvec::ArrayVec;
-use el_base::FileFault;
+use el_base::{FileFault, FormatFault};
 
 /// Program headers, in the order of their table.
 pub type ProgramHeaders = ArrayVec<ProgramHeader, PROGRAM_HEADER_LIMIT>;

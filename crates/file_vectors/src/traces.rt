@@ -3,7 +3,9 @@ ghost use Rattle.chronicle.specs.Chronicle.{events};
 ghost use Rattle.trace_file.specs.Spelling.{outcomes};
 
 use chronicle::History;
-use el_base::{Cause, Config, Entry, Event, FileFault, HartId, Kind, Mode, Outcome};
+use el_base::{
+    Cause, Config, Entry, Event, FileFault, FormatFault, HartId, Kind, Mode, Numbered, Outcome,
+};
 use el_io::{MemShelf, ShelfFault, SureShelf};
 use std::alloc::Global;
 use std::test::Fail;
@@ -93,17 +95,9 @@ fn fault_of(alloc: Global, file: &[u8]) -> Option<FileFault> {
     }
 }
 
-/// The fault of a kind at a place.
-fn at(kind: FaultKind, place: u32) -> FileFault {
-    FileFault {
-        number: kind.number(),
-        place,
-    }
-}
-
 /// The fault of a kind at a place, or none.
 fn bad(fault: Option<(FaultKind, u32)>) -> Option<FileFault> {
-    fault.map(|(kind, place)| at(kind, place))
+    fault.map(|(kind, place)| kind.at(place))
 }
 
 #[test]
@@ -186,10 +180,10 @@ fn each_cut_is_short(rt: HostRuntime) -> Result<(), Fail> {
     for len in 0..59_u32 {
         assert!(rt; len as usize <= file.len());
         let cut = fault_of(rt.alloc(), &file[..len as usize]);
-        assert_eq!(rt; cut, Some(at(FaultKind::Short, len)), "cut to {len}");
+        assert_eq!(rt; cut, Some(FaultKind::Short.at(len)), "cut to {len}");
     }
     file.push(0x00)?;
-    assert_eq!(rt; fault_of(rt.alloc(), &file), Some(at(FaultKind::Tail, 59)));
+    assert_eq!(rt; fault_of(rt.alloc(), &file), Some(FaultKind::Tail.at(59)));
     Ok(())
 }
 
@@ -284,10 +278,10 @@ fn each_cut_of_a_recorded_trace_is_short(rt: HostRuntime) -> Result<(), Fail> {
     for len in 0..116_u32 {
         assert!(rt; len as usize <= file.len());
         let cut = fault_of(rt.alloc(), &file[..len as usize]);
-        assert_eq!(rt; cut, Some(at(FaultKind::Short, len)), "cut to {len}");
+        assert_eq!(rt; cut, Some(FaultKind::Short.at(len)), "cut to {len}");
     }
     file.push(0x00)?;
-    assert_eq!(rt; fault_of(rt.alloc(), &file), Some(at(FaultKind::Tail, 116)));
+    assert_eq!(rt; fault_of(rt.alloc(), &file), Some(FaultKind::Tail.at(116)));
     Ok(())
 }
 
@@ -427,7 +421,7 @@ fn the_first_fault_of_an_entry_is_answered(rt: HostRuntime) -> Result<(), Fail> 
         let file = of_one_entry(rt.alloc(), *harts, entry)?;
         assert_eq!(rt;
             fault_of(rt.alloc(), &file),
-            Some(at(*kind, *place)),
+            Some(kind.at(*place)),
             "{entry:?}"
         );
     }

@@ -1,4 +1,4 @@
-use el_base::FileFault;
+use el_base::{FileFault, FormatFault, Numbered};
 use elf_image::*;
 use std::alloc::{AllocError, Global};
 use std::process::Abort;
@@ -34,17 +34,9 @@ fn judged(
     Ok(loaded(rt, alloc, file, harts)?.err())
 }
 
-/// The fault of a kind at a place.
-fn at(kind: FaultKind, place: u32) -> FileFault {
-    FileFault {
-        number: kind.number(),
-        place,
-    }
-}
-
 /// The fault of a kind at a place, or none.
 fn bad(fault: Option<(FaultKind, u32)>) -> Option<FileFault> {
-    fault.map(|(kind, place)| at(kind, place))
+    fault.map(|(kind, place)| kind.at(place))
 }
 
 /// The file with bytes written over it, each with its place.
@@ -105,7 +97,7 @@ fn each_number_has_its_name(rt: HostRuntime) {
         (16, Some("Empty")),
         (17, None),
     ] {
-        assert_eq!(rt; fault_name(number), name, "{number}");
+        assert_eq!(rt; FaultKind::name_of_number(number), name, "{number}");
     }
 }
 
@@ -131,9 +123,9 @@ fn an_error_says_the_number_and_the_place(rt: HostRuntime) -> Result<(), Fail> {
 fn cut_files_are_refused(rt: HostRuntime) -> Result<(), Fail> {
     for len in 0..HELLO.len() {
         let want = match len {
-            0..52 => at(FaultKind::Short, len as u32),
-            52..84 => at(FaultKind::Table, 28),
-            _ => at(FaultKind::Segment, 56),
+            0..52 => FaultKind::Short.at(len as u32),
+            52..84 => FaultKind::Table.at(28),
+            _ => FaultKind::Segment.at(56),
         };
         let found = judged(&rt, rt.alloc(), &HELLO[..len], 1)?;
         assert_eq!(rt; found, Some(want), "cut to {len}");

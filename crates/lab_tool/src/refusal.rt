@@ -4,7 +4,7 @@ ghost use Rattle.std.specs.Prelude.{◌≡◌};
 ghost use Rattle.lab_tool.specs.Statuses.{status_of_refusal};
 
 use crate::status::Status;
-use el_base::{ConfigFault, FileFault};
+use el_base::{ConfigFault, FileFault, Numbered};
 use std::fmt;
 
 /// Why a command is refused, with the name of the file that is wrong. It writes itself as what is wrong, without a
@@ -48,11 +48,11 @@ impl fmt::Display for Refusal<'_> {
         match *self {
             Refusal::TooBig { file, limit } => write!(f, "{file}: file too big: limit {limit}"),
             Refusal::Image { file, fault } => {
-                let name = elf_image::fault_name(fault.number).unwrap_or("");
+                let name = elf_image::FaultKind::name_of_number(fault.number).unwrap_or("");
                 write_fault(f, file, "image", fault, name)
             }
             Refusal::Trace { file, fault } => {
-                let name = trace_file::fault_name(fault.number).unwrap_or("");
+                let name = trace_file::FaultKind::name_of_number(fault.number).unwrap_or("");
                 write_fault(f, file, "trace", fault, name)
             }
             Refusal::Config { fault } => write!(f, "configuration out of range: {fault:?}"),

@@ -1,5 +1,6 @@
 -- The three differences between a certificate and a run: their numbers and names.
-use Rattle.std.specs.Prelude.{ℕ, ◌==◌, List, [], ◌∷◌, Option, find, option_map, codes}
+use Rattle.std.specs.Prelude.{ℕ, List, [], ◌∷◌, Option, codes}
+use Rattle.el_base.specs.Numbered.{name_by_number}
 use Rattle.run_check.specs.declared.verdict.Difference.{Difference}
 use Rattle.run_check.specs.declared.verdict.Difference.TheVariants.{View, Output, Memory}
 
@@ -21,4 +22,4 @@ differences = View ∷ Output ∷ Memory ∷ []
 
 -- the name of the difference that has a number, or none
 abbrev pub difference_name : ℕ → Option (List ℕ)
-difference_name number = option_map name_of (find (λ kind. number_of kind == number) differences)
+difference_name = name_by_number number_of name_of differences

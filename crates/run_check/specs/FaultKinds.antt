@@ -1,5 +1,6 @@
 -- The nine faults of a certificate: their numbers and names.
-use Rattle.std.specs.Prelude.{ℕ, ◌==◌, List, [], ◌∷◌, Option, find, option_map, codes}
+use Rattle.std.specs.Prelude.{ℕ, List, [], ◌∷◌, Option, codes}
+use Rattle.el_base.specs.Numbered.{name_by_number}
 use Rattle.el_base.specs.declared.file_fault.FileFault.{FileFault}
 use Rattle.run_check.specs.declared.fault.FaultKind.{FaultKind}
 use Rattle.run_check.specs.declared.fault.FaultKind.TheVariants.{Short, Magic, Version, Harts, Stretch, View, Output}
@@ -35,7 +36,7 @@ fault_kinds = Short ∷ Magic ∷ Version ∷ Harts ∷ Stretch ∷ View ∷ Out
 
 -- the name of the fault that has a number, or none
 abbrev pub fault_name : ℕ → Option (List ℕ)
-fault_name number = option_map name_of (find (λ kind. number_of kind == number) fault_kinds)
+fault_name = name_by_number number_of name_of fault_kinds
 
 -- the fault of a kind that a place of the file shows
 abbrev pub fault_of : FaultKind → ℕ → FileFault

@@ -13,7 +13,7 @@ ghost use Rattle.run_check.specs.Spelling.{count_in, hart_in, line_in};
 
 use crate::content::{Certificate, Patch, Stretch};
 use crate::verdict::{Difference, Verdict};
-use el_base::{HartId, LINE_BYTES, NoMemory};
+use el_base::{HartId, LINE_BYTES, NoMemory, Numbered};
 use elf_image::Image;
 use rv_flat::{Flat, HartView};
 use std::alloc::Global;

@@ -1,10 +1,6 @@
 //! What is wrong with a file that is no certificate.
 
-ghost use Rattle.std.specs.Prelude.{◌≡◌};
-ghost use Rattle.std.specs.Option.{option_copied};
-ghost use Rattle.run_check.specs.FaultKinds as kinds;
-
-use el_base::{FileFault, NoMemory};
+use el_base::{FileFault, FormatFault, NoMemory, Numbered};
 use thiserror::Error;
 
 /// The kinds of faults, by number. Their numbers, names and order are this project's.
@@ -30,31 +26,34 @@ pub enum FaultKind {
     Tail,
 }
 
-impl FaultKind {
-    /// All kinds, in the order of their numbers.
-    pub const ALL: [FaultKind; 9] = [
-        FaultKind::Short,
-        FaultKind::Magic,
-        FaultKind::Version,
-        FaultKind::Harts,
-        FaultKind::Stretch,
-        FaultKind::View,
-        FaultKind::Output,
-        FaultKind::Lines,
-        FaultKind::Tail,
-    ];
+impl Numbered for FaultKind {
+    ghost use Rattle.run_check.specs.FaultKinds as faults;
 
-    /// The number of the kind, from 1 to 9.
-    pub fn number(self) -> u8
-        ensures { result ≡ kinds.number_of self }
-    {
+    ghost kinds = { faults.fault_kinds };
+
+    ghost number_of = { faults.number_of };
+
+    ghost name_of = { faults.name_of };
+
+    fn all() -> &'static [FaultKind] {
+        &[
+            FaultKind::Short,
+            FaultKind::Magic,
+            FaultKind::Version,
+            FaultKind::Harts,
+            FaultKind::Stretch,
+            FaultKind::View,
+            FaultKind::Output,
+            FaultKind::Lines,
+            FaultKind::Tail,
+        ]
+    }
+
+    fn number(self) -> u8 {
         self as u8
     }
 
-    /// The name of the kind, as a refusal has it.
-    pub fn name(self) -> &'static str
-        ensures { result.now ≡ kinds.name_of self }
-    {
+    fn name(self) -> &'static str {
         match self {
             FaultKind::Short => "Short",
             FaultKind::Magic => "Magic",
@@ -67,28 +66,9 @@ impl FaultKind {
             FaultKind::Tail => "Tail",
         }
     }
-
-    /// The fault of this kind that a place of the file shows.
-    pub fn at(self, place: u32) -> FileFault
-        ensures { result ≡ kinds.fault_of self place }
-    {
-        FileFault {
-            number: self.number(),
-            place,
-        }
-    }
 }
 
-/// The name of the fault that has a number, or none where no fault has it: a number that is not from 1
-/// to 9.
-pub fn fault_name(number: u8) -> Option<&'static str>
-    ensures { option_copied result ≡ kinds.fault_name number }
-{
-    FaultKind::ALL
-        .iter()
-        .find(|kind| kind.number() == number)
-        .map(|kind| kind.name())
-}
+impl FormatFault for FaultKind {}
 
 /// Why a file was not read as a certificate.
 #[derive(Clone, Copy, Debug, PartialEq, Eq, Error)]

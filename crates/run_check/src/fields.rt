@@ -6,7 +6,7 @@ ghost use Rattle.run_check.specs.FaultKinds.{fault_of};
 ghost use Rattle.run_check.specs.Faults.{field};
 
 use crate::fault::FaultKind;
-use el_base::FileFault;
+use el_base::{FileFault, FormatFault};
 
 /// That the file does not end before this place.
 #[tactic(auto, unfolding(crate::specs::Faults::field))]

@@ -24,12 +24,12 @@ mod writing;
 pub use certifying::certify;
 pub use checking::{check, run_stretch};
 pub use content::{Certificate, Patch, Stretch};
-pub use fault::{CertFault, FaultKind, fault_name};
+pub use fault::{CertFault, FaultKind};
 pub use judging::MAX_FILE_BYTES;
 pub use reached::Reached;
 pub use reading::read_certificate;
 pub use theorems::{
     grammar, one_verdict, reached_states_can_be_certified, written_certificates_hold,
 };
-pub use verdict::{Difference, Verdict, difference_name};
+pub use verdict::{Difference, Verdict};
 pub use writing::write_certificate;

@@ -1,8 +1,6 @@
 //! What a check answers.
 
-ghost use Rattle.std.specs.Prelude.{◌≡◌};
-ghost use Rattle.std.specs.Option.{option_copied};
-ghost use Rattle.run_check.specs.Differences as differences;
+use el_base::Numbered;
 
 /// What may differ between a certificate and the run of its serial order, in the order in which it is judged.
 #[derive(Clone, Copy, Debug, PartialEq, Eq)]
@@ -15,38 +13,30 @@ pub enum Difference {
     Memory,
 }
 
-impl Difference {
-    /// All differences, in the order of their numbers.
-    pub const ALL: [Difference; 3] = [Difference::View, Difference::Output, Difference::Memory];
+impl Numbered for Difference {
+    ghost use Rattle.run_check.specs.Differences as differences;
 
-    /// The number of the difference, from 1 to 3.
-    pub fn number(self) -> u8
-        ensures { result ≡ differences.number_of self }
-    {
+    ghost kinds = { differences.differences };
+
+    ghost number_of = { differences.number_of };
+
+    ghost name_of = { differences.name_of };
+
+    fn all() -> &'static [Difference] {
+        &[Difference::View, Difference::Output, Difference::Memory]
+    }
+
+    fn number(self) -> u8 {
         self as u8
     }
 
-    /// The name of the difference, as a verdict has it.
-    pub fn name(self) -> &'static str
-        ensures { result.now ≡ differences.name_of self }
-    {
+    fn name(self) -> &'static str {
         match self {
             Difference::View => "View",
             Difference::Output => "Output",
             Difference::Memory => "Memory",
         }
     }
-}
-
-/// The name of the difference that has a number, or none where no difference has it: a number that is not
-/// from 1 to 3.
-pub fn difference_name(number: u8) -> Option<&'static str>
-    ensures { option_copied result ≡ differences.difference_name number }
-{
-    Difference::ALL
-        .iter()
-        .find(|kind| kind.number() == number)
-        .map(|kind| kind.name())
 }
 
 /// What is answered of a certificate.

@@ -7,7 +7,7 @@ use Rattle.rv_alu.specs.declared.view.HartStatus.{HartStatus}
 use Rattle.rv_alu.specs.declared.view.HartStatus.TheVariants.{Running, Exited, Trapped}
 use Rattle.rv_alu.specs.declared.view.HartView.{HartView}
 use Rattle.tool.specs.declared.refusal.Refusal.TheVariants.{Usage, Config, TooBig, Image, Trace}
-use Rattle.tool.specs.Messages.{config_fault_text, line_of, newline, wrote_line}
+use Rattle.tool.specs.Messages.{line_of, newline, wrote_line}
 use Rattle.tool.specs.Ending.{all_succeeded}
 
 usage : line_of Usage ≡ codes "usage: elide run IMAGE [options], elide replay IMAGE TRACE, elide gen KIND NUMBER FILE"
@@ -16,11 +16,11 @@ unfolding line_of
 usage = refl
 
 nine_harts : line_of (Config Harts) ≡ codes "config fault 1 Harts" ++ newline
-unfolding line_of config_fault_text
+unfolding line_of digits
 nine_harts = refl
 
 no_steps : line_of (Config Steps) ≡ codes "config fault 6 Steps" ++ newline
-unfolding line_of config_fault_text
+unfolding line_of digits
 no_steps = refl
 
 image_over_its_limit : line_of (TooBig 33554432) ≡ codes "file too big: limit 33554432" ++ newline

@@ -1,8 +1,8 @@
 -- The one line that a refusal or a written image puts to err.
 use Rattle.std.specs.Prelude.{ℕ, List, [], ◌∷◌, ◌++◌, codes, unwrap_or}
 use Rattle.std.specs.Fmt.{decimal}
+use Rattle.el_base.specs.ConfigFaults.{name_of, number_of}
 use Rattle.el_base.specs.declared.config.ConfigFault.{ConfigFault}
-use Rattle.el_base.specs.declared.config.ConfigFault.TheVariants.{Harts, Sets, Ways, Lines, Long, Steps}
 use Rattle.el_base.specs.declared.file_fault.FileFault.{FileFault}
 use Rattle.elf_image.specs.FaultKinds as image_faults
 use Rattle.hex.specs.Hex.{encode_lower}
@@ -15,21 +15,12 @@ use Rattle.run_check.specs.FaultKinds as certificate_faults
 use Rattle.trace_file.specs.FaultKinds as trace_faults
 use Rattle.trace_file.specs.Outcomes.{outcome_spelling}
 
--- the number and the name of a fault of a configuration
-unfoldable pub config_fault_text : ConfigFault → List ℕ
-config_fault_text Harts = codes "1 Harts"
-config_fault_text Sets = codes "2 Sets"
-config_fault_text Ways = codes "3 Ways"
-config_fault_text Lines = codes "4 Lines"
-config_fault_text Long = codes "5 Long"
-config_fault_text Steps = codes "6 Steps"
-
 abbrev pub newline : List ℕ
 newline = 10 ∷ []
 
 -- the line of a fault of a configuration
 abbrev pub config_line : ConfigFault → List ℕ
-config_line fault = line (codes "config fault") (config_fault_text fault ∷ [])
+config_line fault = line (codes "config fault") (decimal (number_of fault) ∷ name_of fault ∷ [])
 
 -- the line of a fault of a file, by what the file is, and the fault with its name
 abbrev pub fault_line : List ℕ → FileFault → List ℕ → List ℕ

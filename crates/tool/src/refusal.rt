@@ -1,14 +1,12 @@
 //! Why a command is refused, and the line that it puts to err then.
 ghost use Rattle.std.specs.Prelude.{◌≡◌, ◌∷◌, [], unwrap_or};
 ghost use Rattle.std.specs.Fmt.{decimal};
-ghost use Rattle.elf_image.specs.FaultKinds as image_faults;
-ghost use Rattle.run_check.specs.FaultKinds as certificate_faults;
-ghost use Rattle.trace_file.specs.FaultKinds as trace_faults;
+ghost use Rattle.el_base.specs.Numbered.{name_by_number};
 ghost use Rattle.report.specs.Line.{line};
 ghost use Rattle.report.specs.Puts.{Puts};
-ghost use Rattle.tool.specs.Messages.{config_fault_text as text_of_config_fault, config_line, fault_line, line_of};
+ghost use Rattle.tool.specs.Messages.{config_line, fault_line, line_of};
 
-use el_base::{ConfigFault, FileFault};
+use el_base::{ConfigFault, FileFault, FormatFault, Numbered};
 use el_io::{Failed, Sink};
 use report::{Word, put_line};
 
@@ -50,10 +48,10 @@ impl Refusal {
             Refusal::Usage => put_text(err, USAGE),
             Refusal::Config(fault) => put_config(err, fault),
             Refusal::TooBig { limit } => put_number(err, "file too big: limit", limit),
-            Refusal::Image(fault) => put_fault(err, "image", fault, name_in_image(fault)),
-            Refusal::Trace(fault) => put_fault(err, "trace", fault, name_in_trace(fault)),
+            Refusal::Image(fault) => put_fault::<elf_image::FaultKind, E>(err, "image", fault),
+            Refusal::Trace(fault) => put_fault::<trace_file::FaultKind, E>(err, "trace", fault),
             Refusal::Certificate(fault) => {
-                put_fault(err, "certificate", fault, name_in_certificate(fault))
+                put_fault::<run_check::FaultKind, E>(err, "certificate", fault)
             }
             Refusal::PlaceOverEnd { events } => {
                 put_number(err, "place over the end: events", events)
@@ -93,68 +91,32 @@ fn put_config<E: Sink>(err: &mut E, fault: ConfigFault) -> Result<(), Failed>
         (record { taken = E.taken err.new; faults = E.faults err.new })
         (config_line fault) }
 {
-    put_line(
-        err,
-        "config fault",
-        &[Word::Text(config_fault_text(fault))],
-        &[],
-    )
+    let words = [
+        Word::Number(fault.number().into()),
+        Word::Text(fault.name()),
+    ];
+    put_line(err, "config fault", &words, &[])
 }
 
-/// The name of a fault of an image. Each number that `load` answers with has one.
-fn name_in_image(fault: FileFault) -> &'static str
-    ensures { result.now ≡ unwrap_or (image_faults.fault_name fault.number) [] }
-{
-    elf_image::fault_name(fault.number).unwrap_or("")
-}
-
-/// That of a fault of a trace, where each number that `read_trace` answers with has one.
-fn name_in_trace(fault: FileFault) -> &'static str
-    ensures { result.now ≡ unwrap_or (trace_faults.fault_name fault.number) [] }
-{
-    trace_file::fault_name(fault.number).unwrap_or("")
-}
-
-/// That of a fault of a certificate, where each number that `read_certificate` answers with has one.
-fn name_in_certificate(fault: FileFault) -> &'static str
-    ensures { result.now ≡ unwrap_or (certificate_faults.fault_name fault.number) [] }
-{
-    run_check::fault_name(fault.number).unwrap_or("")
-}
-
-/// Puts the line of a fault of a file, by what the file is, and the fault with its name.
-fn put_fault<E: Sink>(
+/// Puts the line of a fault of a file, by what the file is, and the fault with its name. Each number that a reader
+/// answers with has one.
+fn put_fault<F: FormatFault, E: Sink>(
     err: &mut E,
     file: &'static str,
     fault: FileFault,
-    name: &'static str,
 ) -> Result<(), Failed>
-    ensures { Puts result
+    ensures { let name = unwrap_or (name_by_number F.number_of F.name_of F.kinds fault.number) [] in
+        Puts result
         (record { taken = E.taken err.old; faults = E.faults err.old })
         (record { taken = E.taken err.new; faults = E.faults err.new })
-        (fault_line file.now fault name.now) }
+        (fault_line file.now fault name) }
 {
     let words = [
         Word::Text("fault"),
         Word::Number(fault.number.into()),
-        Word::Text(name),
+        Word::Text(F::name_of_number(fault.number).unwrap_or("")),
         Word::Text("at byte"),
         Word::Number(fault.place.into()),
     ];
     put_line(err, file, &words, &[])
-}
-
-/// The number and the name of a fault of a configuration.
-#[tactic(auto, unfolding(crate::specs::Messages::config_fault_text))]
-fn config_fault_text(fault: ConfigFault) -> &'static str
-    ensures { result.now ≡ text_of_config_fault fault }
-{
-    match fault {
-        ConfigFault::Harts => "1 Harts",
-        ConfigFault::Sets => "2 Sets",
-        ConfigFault::Ways => "3 Ways",
-        ConfigFault::Lines => "4 Lines",
-        ConfigFault::Long => "5 Long",
-        ConfigFault::Steps => "6 Steps",
-    }
 }

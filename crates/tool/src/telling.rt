@@ -22,7 +22,7 @@ use crate::refusal::Refusal;
 use crate::status::Status;
 use crate::stop::Fault;
 use drive::Machine;
-use el_base::HartId;
+use el_base::{HartId, Numbered};
 use el_io::{Failed, Shelf, Sink, put_all};
 use report::{write_found, write_place, write_report, write_times};
 use run_check::{Verdict, write_certificate};
@@ -235,7 +235,7 @@ fn verdict_line(alloc: Global, verdict: Verdict, output: usize) -> Result<String
         Verdict::Fails { number, place } => {
             let mut line = format!(in alloc; "certificate fails {number} ")?;
             // Each number that `check` answers with has a name.
-            line.push_str(run_check::difference_name(number).unwrap_or(""))?;
+            line.push_str(run_check::Difference::name_of_number(number).unwrap_or(""))?;
             writeln!(line, " at {place}")?;
             Ok(line)
         }

@@ -8,7 +8,7 @@ ghost use Rattle.trace_file.specs.FaultKinds.{fault_of};
 ghost use Rattle.trace_file.specs.Faults.{byte_fault, field, number_fault};
 
 use crate::fault::FaultKind;
-use el_base::{ConfigFault, FileFault};
+use el_base::{ConfigFault, FileFault, FormatFault};
 use file_numbers::number_at;
 
 /// That the file does not end before this place.

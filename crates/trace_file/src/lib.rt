@@ -21,7 +21,7 @@ mod theorems;
 mod writing;
 
 pub use content::{Events, Trace};
-pub use fault::{FaultKind, TraceFault, fault_name};
+pub use fault::{FaultKind, TraceFault};
 pub use head::MAX_FILE_BYTES;
 pub use outcome_bytes::{SpelledOutcome, outcome_spelling};
 pub use reading::read_trace;

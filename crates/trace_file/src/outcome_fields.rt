@@ -17,7 +17,7 @@ ghost use Rattle.trace_file.specs.Reading.{cause_at, freed_in, losers_in, why_at
 use crate::fault::FaultKind;
 use crate::fields::expect;
 use byteorder::{ByteOrder, LittleEndian};
-use el_base::{Cause, FileFault, Freed, HartId, LineAddr, Losers, MAX_HARTS, Why};
+use el_base::{Cause, FileFault, FormatFault, Freed, HartId, LineAddr, Losers, MAX_HARTS, Why};
 
 /// The most instructions that a section commits.
 const MAX_COMMITTED: u32 = 65_536;

@@ -18,7 +18,7 @@ use crate::entries::{check_entries, entries_of};
 use crate::fault::{FaultKind, TraceFault};
 use crate::fields::{behind, expect, reaches};
 use crate::head::{HEAD_BYTES, Head, WITHOUT_OUTCOMES, head_of};
-use el_base::{Event, FileFault, HartId, Kind, NoMemory};
+use el_base::{Event, FileFault, FormatFault, HartId, Kind, NoMemory};
 use std::alloc::Global;
 
 /// Whether a byte is an event of one of so many harts.

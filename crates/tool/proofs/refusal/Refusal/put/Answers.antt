@@ -1,6 +1,5 @@
-use Rattle.std.proofs.Common.{ap, sym, ◌∙◌}
-use Rattle.std.specs.Prelude.{codes}
-use Rattle.tool.specs.Messages.{fault_line, line_of}
+use Rattle.std.proofs.Common.{ap, sym}
+use Rattle.tool.specs.Messages.{line_of}
 use Rattle.tool.proofs.refusal.Refusal.put.Goals as goal
 use Rattle.report.proofs.Laws.Puts.{same_puts}
 
@@ -15,23 +14,17 @@ returns-in-Config g c = same_puts c.put_config.result _ _ _ _ (ap line_of (sym c
 pub returns-in-Image : goal.returns-in-Image
 unfolding line_of
 returns-in-Image g c =
-    same_puts c.put_fault.result _ _ _ _
-    (ap (fault_line (codes "image") c.in-Image.fault) c.name_in_image.ensures ∙ ap line_of (sym c.in-Image.is))
-    c.put_fault.ensures
+    same_puts c.put_fault.result _ _ _ _ (ap line_of (sym c.in-Image.is)) c.put_fault.ensures
 
 pub returns-in-Trace : goal.returns-in-Trace
 unfolding line_of
 returns-in-Trace g c =
-    same_puts c.put_fault-in-Trace.result _ _ _ _
-    (ap (fault_line (codes "trace") c.in-Trace.fault) c.name_in_trace.ensures ∙ ap line_of (sym c.in-Trace.is))
-    c.put_fault-in-Trace.ensures
+    same_puts c.put_fault-in-Trace.result _ _ _ _ (ap line_of (sym c.in-Trace.is)) c.put_fault-in-Trace.ensures
 
 pub returns-in-Certificate : goal.returns-in-Certificate
 unfolding line_of
 returns-in-Certificate g c =
-    same_puts c.put_fault-in-Certificate.result _ _ _ _
-    (ap (fault_line (codes "certificate") c.in-Certificate.fault) c.name_in_certificate.ensures
-    ∙ ap line_of (sym c.in-Certificate.is))
+    same_puts c.put_fault-in-Certificate.result _ _ _ _ (ap line_of (sym c.in-Certificate.is))
     c.put_fault-in-Certificate.ensures
 
 pub returns-in-TooBig : goal.returns-in-TooBig

@@ -1,9 +1,8 @@
 ghost use Rattle.std.specs.Prelude.{◌≡◌, None, IsSome};
 ghost use Rattle.std.specs.Borrow.{sem};
-ghost use Rattle.rv_alu.specs.Reservations.{reserved_off};
 ghost use Rattle.reg_mark.specs.Marks.{back_of, committed_of, kept_of, marked, marks_unreserved, unmarked};
 
-use el_base::{LineAddr, line_of};
+use el_base::LineAddr;
 use rv_alu::HartView;
 
 /// A hart's present view, with a checkpoint of an earlier one or none.
@@ -85,15 +84,8 @@ impl Marked {
         ensures { self.new ≡ marks_unreserved line.number self.old }
     {
         match &mut self.mark {
-            Some(mark) => mark.reserved = off_line(mark.reserved, line),
-            None => self.present.reserved = off_line(self.present.reserved, line),
+            Some(mark) => mark.unreserve(line),
+            None => self.present.unreserve(line),
         }
     }
-}
-
-/// What is left of a reservation without those of words on this line.
-fn off_line(reserved: Option<u32>, line: LineAddr) -> Option<u32>
-    ensures { result ≡ reserved_off line.number reserved }
-{
-    reserved.filter(|word| line_of(*word) != line)
 }

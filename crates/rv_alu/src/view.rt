@@ -1,4 +1,8 @@
+ghost use Rattle.std.specs.Prelude.{◌≡◌};
+ghost use Rattle.rv_alu.specs.Reservations.{unreserved};
+
 use crate::regs::Regs;
+use el_base::{LineAddr, line_of};
 
 /// Whether a hart runs, and how it stopped.
 #[derive(Clone, Copy, Debug, PartialEq, Eq)]
@@ -22,4 +26,13 @@ pub struct HartView {
     /// The address of the word that LR reserved, until something takes the reservation.
     pub reserved: Option<u32>,
     pub status: HartStatus,
+}
+
+impl HartView {
+    /// Ends the reservation where it is of a word on this line, as a store to the line does.
+    pub fn unreserve(&mut self, line: LineAddr)
+        ensures { self.new ≡ unreserved line.number self.old }
+    {
+        self.reserved = self.reserved.filter(|word| line_of(*word) != line);
+    }
 }

@@ -1,17 +1,19 @@
 #!/usr/bin/env python3
 """Writes the short runs that the rules tell in words, in the form of the runs of crates/worked_runs.
 
-    tools/rule_rows.py
+    tools/rule_rows.py [--check]
 
 Each run is a program of a few instructions, the events, and what comes of each by the rules of docs/MODEL.md, worked
-by hand. They go to crates/worked_runs/data/row-NAME.json.
+by hand. They go to crates/worked_runs/data/row-NAME.json. With --check the files there are compared with that.
 """
 import json
 import pathlib
+import sys
 
 DATA = pathlib.Path(__file__).resolve().parent.parent / "crates/worked_runs/data"
 BASE, CODE = 0x10000, 0x20000
 FIRST = BASE // 64  # the first line of memory
+ROWS = {}  # the text of each file, by its name
 
 
 def lui(rd, imm):
@@ -104,8 +106,7 @@ def row(name, mode, harts, words, events, lines=16, sets=16, ways=4, long=2000, 
         run["end"] = end
     if ready is not None:
         run["ready"] = ready
-    text = json.dumps(run, indent=1)
-    (DATA / f"row-{name}.json").write_text(text + "\n")
+    ROWS[f"row-{name}.json"] = json.dumps(run, indent=1) + "\n"
 
 
 def reservation_lost_to_an_elided_commit(mode):
@@ -325,7 +326,7 @@ def conditional_elsewhere(mode):
     row(f"conditional-elsewhere-{mode.lower()}", mode, 1, words, events, end=ending(8, 1))
 
 
-def main():
+def work_out():
     for mode in ("Sle", "Tlr"):
         low = mode.lower()
         reservation_lost_to_an_elided_commit(mode)
@@ -349,5 +350,19 @@ def main():
     four_losses()
 
 
+def main():
+    work_out()
+    if sys.argv[1:] != ["--check"]:
+        for name, text in ROWS.items():
+            (DATA / name).write_text(text)
+        return 0
+    there = {file.name: file.read_text() for file in DATA.glob("row-*.json")}
+    wrong = sorted(name for name in ROWS.keys() | there.keys() if ROWS.get(name) != there.get(name))
+    for name in wrong:
+        print(f"{name}: not what tools/rule_rows.py writes")
+    print(f"rule_rows: {len(ROWS.keys() | there.keys()) - len(wrong)} passed, {len(wrong)} failed")
+    return 1 if wrong else 0
+
+
 if __name__ == "__main__":
-    main()
+    sys.exit(main())

@@ -1,5 +1,4 @@
 pub mod Laws
-mod PutBytes
 mod Runs
 mod Windows
 mod Rules

@@ -22,8 +22,8 @@ pub use flat_state::Flat;
 pub use output::Output;
 pub use rv_alu::{HartStatus, HartView};
 pub use theorems::{
-    alone_of_a_sum, run_forgets_a_lost_reservation, run_of_two_lists, start_has_registers,
-    step_depends_on_what_its_hart_sees, step_ignores_output_outside_calls, step_keeps_other_views,
-    step_keeps_register_zero, step_keeps_shape, step_touches_one_line,
+    alone_of_a_sum, run_forgets_a_lost_reservation, run_keeps_shape, run_of_two_lists,
+    start_has_registers, step_depends_on_what_its_hart_sees, step_ignores_output_outside_calls,
+    step_keeps_other_views, step_keeps_register_zero, step_keeps_shape, step_touches_one_line,
     step_writes_only_its_footprint, step_writes_only_one_line, stopped_hart_changes_nothing,
 };

@@ -24,6 +24,11 @@ pub fn step_keeps_shape()
     ensures { (state : FlatState) (hart : ℕ) → KeepsShape state (flat state hart) }
 {}
 
+/// A run of any harts keeps the same, and the output only grows at its end.
+pub fn run_keeps_shape()
+    ensures { (state : FlatState) (harts : List ℕ) → KeepsShape state (run state harts) }
+{}
+
 /// What a step touches lies in memory, and in one line of it.
 #[tactic(auto, using(crate::proofs::Laws::StepLaws::one_line))]
 pub fn step_touches_one_line()

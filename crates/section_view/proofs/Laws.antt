@@ -1,5 +1,4 @@
 -- the laws that are offered to the crates above, some of them passed on from below; every other file here is private
-pub mod Bytes
 pub mod Shapes
 pub mod ShownBytes
 pub mod Beginning

@@ -17,9 +17,8 @@ use Rattle.el_base.specs.Line.{line_number}
 use Rattle.el_base.specs.declared.line.TheConstants.{LINE_BYTES}
 use Rattle.rv_alu.specs.Footprint.{IsSize}
 use Rattle.rv_flat.specs.Memory.{put_bytes}
-use Rattle.rv_flat.proofs.Laws.PutBytes.{put_bytes-other}
+use Rattle.rv_flat.proofs.Laws.PutBytes.{put_bytes-here, put_bytes-other}
 use Rattle.cached_step.specs.CacheRun.{PutsIn, line_after}
-use Rattle.cached_step.proofs.PutBytes.{put_bytes-here}
 
 -- a line that is not there has no bytes
 not_here : (b : Bool) (way : Way) (other : Option Way) (bytes rest : List ℕ) → (is_some other ≡ false → rest ≡ []) →

@@ -5,7 +5,7 @@ use Rattle.std.specs.Prelude.{slice_index, slice_set}
 use Rattle.std.proofs.lemmas.Grind.{common_steps}
 use Rattle.std.proofs.lemmas.List.{get_or-set_other, get_or-set_same, length-set}
 use Rattle.std.proofs.Math.Arith.{mod-mul}
-use Rattle.std.proofs.Math.Nat.{pow-suc}
+use Rattle.std.proofs.Math.Nat.{div-div-eq-div-mul, pow-suc}
 use Rattle.rv_alu.specs.Loaded.{loaded}
 use Rattle.rv_flat.specs.Memory.{AreBytes, byte_in, put_bytes}
 use Rattle.el_base.proofs.Laws.Tests.{pow_256_pos}
@@ -45,6 +45,27 @@ put_bytes-same left right place (suc n) value k same h =
     n (value / 256) k
     (length-set left place (value % 256) ∙ same ∙ sym (length-set right place (value % 256)))
     (set-same left right place (value % 256) k same h)
+
+-- a byte of a number is that of its high bytes one place lower
+byte_more : (value k : ℕ) → value / 256 / 256 ^ k % 256 ≡ value / 256 ^ suc k % 256
+byte_more value k =
+    let more : 256 ^ suc k ≡ 256 * 256 ^ k = rw pow-suc (omega arith) in
+    ap (λ n. n % 256) (div-div-eq-div-mul value 256 (256 ^ k)) ∙ sym (ap (λ power. value / power % 256) more)
+
+-- a byte that was put is the number's
+pub put_bytes-here : (bytes : List ℕ) (place n value k at : ℕ) → place + n ≤ length bytes → k < n → at ≡ place + k →
+    slice_index (put_bytes bytes place n value) at ≡ value / 256 ^ k % 256
+put_bytes-here bytes place zero value k at inside below is = absurd (omega arith)
+put_bytes-here bytes place (suc n) value zero at inside below is =
+    let here : at ≡ place = omega arith in
+    let first : value % 256 ≡ value / 256 ^ 0 % 256 = omega arith in
+    put_bytes-other (slice_set bytes place (value % 256)) (place + 1) n (value / 256) at (λ low high. omega arith)
+    ∙ ap (slice_index (slice_set bytes place (value % 256))) here
+    ∙ get_or-set_same bytes place (value % 256) 0 (omega arith) ∙ first
+put_bytes-here bytes place (suc n) value (suc k) at inside below is =
+    put_bytes-here (slice_set bytes place (value % 256)) (place + 1) n (value / 256) k at
+    (omega (arith, length-set bytes place (value % 256))) (omega arith) (omega arith)
+    ∙ byte_more value k
 
 -- bytes stay bytes
 set-bytes : (bytes : List ℕ) (place value : ℕ) → AreBytes bytes → AreBytes (slice_set bytes place (value % 256))

@@ -33,7 +33,8 @@ use Rattle.section_view.proofs.Laws.GoingOn.{written_before, written_since}
 use Rattle.section_view.proofs.Lines.{line_bytes, same_line}
 use Rattle.section_view.proofs.OthersViews.{has_written, others_after, same_lines, unreserved_same}
 use Rattle.section_view.proofs.Laws.Releasing.{release_is}
-use Rattle.section_view.proofs.Laws.Shapes.{alone_shape, comes_to, output_shown, quiet_step}
+use Rattle.section_view.proofs.Laws.Shapes.{comes_to, output_shown, quiet_step}
+use Rattle.rv_flat.proofs.Laws.Shapes.{keeps_alone}
 use Rattle.section_view.proofs.Laws.ShownBytes.{InWord, Inside, Outside, do_as_shown, held_or_committed, in_word}
 use Rattle.section_view.specs.KeptRun.{KeepsRun, WroteLine, is_written, section_execution}
 use Rattle.section_view.specs.Laws.{AgreeBeside, ReleasedViewsAreTold, SectionsCommit}
@@ -83,7 +84,7 @@ module _ (committed : FlatState) (h : ℕ) (cache : List (List Way)) (section : 
       (comes_to committed h cache section view hold run keeps).insn
       ∙ ap (λ seen. released_view (insn_at (code_word committed.code view.pc)) seen found) (sym keeps.view)
       ∙ ap (released_view (insn_at (code_word committed.code view.pc)) view)
-      (ap (λ base. loaded (byte_in base shown.bytes) section.word 4) (alone_shape committed h section.count).base
+      (ap (λ base. loaded (byte_in base shown.bytes) section.word 4) (keeps_alone committed h section.count).base
       ∙ lock)
 
   output : (alone committed h (section.count + 1)).output ≡ committed.output
@@ -129,9 +130,9 @@ module _ (committed : FlatState) (h : ℕ) (cache : List (List Way)) (section : 
             slice_index (alone committed h (section.count + 1)).bytes place
             ≡ unwrap_or (held hold (committed.base + place)) (slice_index committed.bytes place)
         by (Inside low high) =
-            let shape = alone_shape committed h section.count in
+            let shape = keeps_alone committed h section.count in
             let base : shown.base ≡ committed.base = shape.base in
-            let size : length shown.bytes ≡ length committed.bytes = shape.size in
+            let size : length shown.bytes ≡ length committed.bytes = shape.length_of_bytes in
             let piece = word_piece shown h section.word section.old stores in
             let from : shown.base ≤ section.word = piece.from_base in
             let end : section.word + 4 ≤ shown.base + length shown.bytes = piece.before_end in
@@ -148,24 +149,24 @@ module _ (committed : FlatState) (h : ℕ) (cache : List (List Way)) (section : 
             ap (λ state. slice_index state.bytes place) last
             ∙ keeps_outside shown h section.word section.old place runs stores
             (subst (λ base. IsOutsideWord section.word (base + place))
-            (sym (alone_shape committed h section.count).base) out)
+            (sym (keeps_alone committed h section.count).base) out)
             ∙ held_or_committed committed h cache section view hold run keeps place out
 
 pub commits : SectionsCommit
 commits committed h cache section view hold under are_bytes run keeps release =
     let done = alone committed h (section.count + 1) in
-    let shape = alone_shape committed h (section.count + 1) in
+    let shape = keeps_alone committed h (section.count + 1) in
     let each = bytes committed h cache section view hold under run keeps release are_bytes in
     record {
       own = own committed h cache section view hold under run keeps release;
       others = others committed h cache section view hold under run keeps release;
       bytes = each;
-      lines = line_bytes committed done hold shape.base shape.size each;
-      same = same_line committed done hold shape.base shape.size each;
+      lines = line_bytes committed done hold shape.base shape.length_of_bytes each;
+      same = same_line committed done hold shape.base shape.length_of_bytes each;
       output = output committed h cache section view hold under run keeps release;
       base = shape.base;
       code = shape.code;
-      size = shape.size;
+      size = shape.length_of_bytes;
       harts = shape.harts;
     }
 

@@ -20,7 +20,7 @@ use Rattle.rv_alu.specs.declared.footprint.Access.{Access}
 use Rattle.rv_alu.specs.declared.footprint.Access.TheVariants.{Nothing, Read, Write, Trap, Exit}
 use Rattle.rv_alu.specs.declared.view.HartStatus.TheVariants.{Running}
 use Rattle.rv_alu.specs.declared.view.HartView.{HartView}
-use Rattle.rv_flat.proofs.Laws.PutBytes.{put_bytes-other}
+use Rattle.rv_flat.proofs.Laws.PutBytes.{put_bytes-here, put_bytes-other}
 use Rattle.rv_flat.proofs.Laws.RunsAfter.{runs-exists}
 use Rattle.rv_flat.proofs.Laws.StepLaws.{one_line-touched, own_view, running, within}
 use Rattle.rv_flat.specs.FlatState.{FlatState, span_of, status_of, view_of}
@@ -32,8 +32,7 @@ use Rattle.run_laws.proofs.Laws.Alike.{alone_more}
 use Rattle.run_laws.proofs.Laws.WordStores.{writes_store}
 use Rattle.run_laws.specs.PrivateRun.{HasItsBit, IsCoveredRun, IsCoveredStep, IsOutsideWord}
 use Rattle.section_view.proofs.Laws.Beginning.{or_cases}
-use Rattle.section_view.proofs.Laws.Bytes.{put_bytes-here}
-use Rattle.section_view.proofs.Laws.Shapes.{alone_shape}
+use Rattle.rv_flat.proofs.Laws.Shapes.{keeps_alone}
 use Rattle.section_view.proofs.Laws.ShownBytes.{do_as_shown}
 use Rattle.section_view.specs.KeptRun.{HoldsMarked, KeepsRun, WroteLine, is_written}
 use Rattle.section_view.specs.Laws.{GoesOn, HoldsAfter, IsHeldStore, SectionsGoOn}
@@ -173,7 +172,7 @@ module _ (committed : FlatState) (h : ℕ) (cache now : List (List Way)) (sectio
   runs = run.running section.count (omega arith)
 
   base : (alone committed h section.count).base ≡ committed.base
-  base = (alone_shape committed h section.count).base
+  base = (keeps_alone committed h section.count).base
 
   after_bytes : (store : Option Store) → next_store (alone committed h section.count) h ≡ store →
       (alone committed h (section.count + 1)).bytes ≡ stored_by store (alone committed h section.count).base
@@ -236,7 +235,7 @@ module _ (committed : FlatState) (h : ℕ) (cache now : List (List Way)) (sectio
         ap (λ bytes. slice_index bytes place) (after_bytes (Some store) is)
         ∙ put_bytes-here shown.bytes (store.address - shown.base) store.len store.value
         (committed.base + place - store.address) place
-        (omega (arith, base)) (omega arith) (omega arith)
+        (omega arith) (omega arith) (omega (arith, base))
 
     kept_byte : (place : ℕ) →
         (store.address ≤ committed.base + place → committed.base + place < store.address + store.len → ⊥) →

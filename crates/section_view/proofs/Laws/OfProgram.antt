@@ -10,7 +10,7 @@ use Rattle.elf_image.specs.Program.{Program}
 use Rattle.rv_flat.proofs.Laws.RunsAfter.{run_bytes}
 use Rattle.rv_flat.specs.FlatState.{FlatState, first_view, start}
 use Rattle.rv_flat.specs.Run.{run}
-use Rattle.section_view.proofs.Laws.Shapes.{run_shape}
+use Rattle.rv_flat.proofs.Laws.Shapes.{keeps_run}
 use Rattle.section_view.specs.Laws.{CommittedIsOfItsProgram, IsOfProgram}
 
 first_is : (program : Program) (config : Config) → IsOfProgram program (begin program config).committed
@@ -26,11 +26,11 @@ first_is program config = record {
 run_is : (program : Program) (state : FlatState) (harts : List ℕ) → IsOfProgram program state →
     IsOfProgram program (run state harts)
 run_is program state harts is =
-    let shape = run_shape state harts in
+    let shape = keeps_run state harts in
     record {
       base = shape.base ∙ is.base;
       code = shape.code ∙ is.code;
-      size = shape.size ∙ is.size;
+      size = shape.length_of_bytes ∙ is.size;
       harts = shape.harts ∙ is.harts;
       bytes = λ are. run_bytes state harts (is.bytes are);
     }

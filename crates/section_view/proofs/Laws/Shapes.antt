@@ -1,5 +1,5 @@
--- what steps keep of the state, and an armed or a covered run of the output
-use Rattle.std.proofs.Common.{◌≡◌, ◌≤◌, ◌<◌, ◌+◌, ◌-◌, ◌∙◌, ◌⊎◌, ℕ, zero, suc, false, List, [], ◌∷◌, length, replicate}
+-- what a private run leaves of the output, and what comes next behind it
+use Rattle.std.proofs.Common.{◌≡◌, ◌≤◌, ◌<◌, ◌+◌, ◌-◌, ◌∙◌, ◌⊎◌, ℕ, zero, suc, false, List, length}
 use Rattle.std.proofs.Common.{arith, refl, ap, sym, subst}
 use Rattle.std.proofs.Common.{inl, inr}
 use Rattle.std.proofs.lemmas.Bool.{cases_lt}
@@ -12,10 +12,11 @@ use Rattle.rv_alu.specs.Action.{action_at}
 use Rattle.rv_alu.specs.Execution.{insn_at, touched}
 use Rattle.rv_alu.specs.declared.view.HartStatus.TheVariants.{Running}
 use Rattle.rv_alu.specs.declared.view.HartView.{HartView}
-use Rattle.rv_flat.proofs.Laws.StepLaws.{keeps_shape, running}
+use Rattle.rv_flat.proofs.Laws.Shapes.{keeps_alone, span_kept}
+use Rattle.rv_flat.proofs.Laws.StepLaws.{running}
 use Rattle.rv_flat.specs.FlatState.{FlatState, output_limit, room_of, span_of, status_of, view_of}
-use Rattle.rv_flat.specs.Laws.{next_insn, touched_by}
-use Rattle.rv_flat.specs.Run.{alone, run}
+use Rattle.rv_flat.specs.Laws.{KeepsShape, next_insn, touched_by}
+use Rattle.rv_flat.specs.Run.{alone}
 use Rattle.rv_flat.specs.Step.{appended_by, flat}
 use Rattle.run_laws.proofs.Laws.Alike.{no_call}
 use Rattle.run_laws.proofs.Laws.Alike.{alone_more}
@@ -25,28 +26,6 @@ use Rattle.run_laws.specs.PrivateRun.{IsAcquire, IsCoveredRun}
 use Rattle.section_view.specs.ArmedLaws.{ArmedSectionsComeTo}
 use Rattle.section_view.specs.Laws.{ComesTo, SectionsComeTo}
 use Rattle.el_base.proofs.Laws.Tests.{first_not}
-
--- memory lies at the same place and has the same size, and the code and the number of harts are the same
-pub record SameShape (old new : FlatState) : Type 0 where
-  pub base : new.base ≡ old.base
-  pub code : new.code ≡ old.code
-  pub size : length new.bytes ≡ length old.bytes
-  pub harts : length new.harts ≡ length old.harts
-
-pub run_shape : (state : FlatState) (harts : List ℕ) → SameShape state (run state harts)
-run_shape state [] = record { base = refl; code = refl; size = refl; harts = refl }
-run_shape state (hart ∷ harts) =
-    let step = keeps_shape state hart in
-    let rest = run_shape (flat state hart) harts in
-    record {
-      base = rest.base ∙ step.base;
-      code = rest.code ∙ step.code;
-      size = rest.size ∙ step.length_of_bytes;
-      harts = rest.harts ∙ step.harts;
-    }
-
-pub alone_shape : (state : FlatState) (h n : ℕ) → SameShape state (alone state h n)
-alone_shape state h n = run_shape state (replicate n h)
 
 -- an instruction that makes no call leaves the output
 pub quiet_step : (state : FlatState) (h : ℕ) → status_of state h ≡ Running → calls_or_stops state h ≡ false →
@@ -99,18 +78,13 @@ module _ (committed : FlatState) (h : ℕ) (cache : List (List Way)) (section : 
   pub output_shown : (alone committed h section.count).output ≡ committed.output
   output_shown = output_at section.count (omega arith)
 
--- what comes next is the same where code, memory and room are
-pub span_shape : (old new : FlatState) → SameShape old new → span_of new ≡ span_of old
-span_shape old new same =
-    ap (λ base. record { base = base; end = base + length new.bytes }) same.base
-    ∙ ap (λ size. record { base = old.base; end = old.base + size }) same.size
-
+-- the room of the output is the same where the output is
 pub room_shape : (old new : FlatState) → new.output ≡ old.output → room_of new ≡ room_of old
 room_shape old new same = ap (λ output. output_limit - length output) same
 
 -- what comes next is what a view comes to in what is committed, where memory's shape and the output are as they were
 pub comes_alike : (committed shown : FlatState) (h : ℕ) (view : HartView) → view ≡ view_of shown h →
-    SameShape committed shown → shown.output ≡ committed.output → ComesTo committed shown h view
+    KeepsShape committed shown → shown.output ≡ committed.output → ComesTo committed shown h view
 comes_alike committed shown h view is same output = record {
   insn =
       ap (λ view. insn_at (code_word shown.code view.pc)) (sym is)
@@ -118,22 +92,22 @@ comes_alike committed shown h view is same output = record {
   action =
       ap (λ code. action_at (code_word code view.pc) view (span_of shown) (room_of shown)) same.code
       ∙ ap (λ span. action_at (code_word committed.code view.pc) view span (room_of shown))
-      (span_shape committed shown same)
+      (span_kept committed shown same)
       ∙ ap (action_at (code_word committed.code view.pc) view (span_of committed)) (room_shape committed shown output);
   access =
       ap (touched_by shown) (sym is)
       ∙ ap (λ code. touched (code_word code view.pc) view (span_of shown) (room_of shown)) same.code
       ∙ ap (λ span. touched (code_word committed.code view.pc) view span (room_of shown))
-      (span_shape committed shown same)
+      (span_kept committed shown same)
       ∙ ap (touched (code_word committed.code view.pc) view (span_of committed)) (room_shape committed shown output);
 }
 
 pub comes_to : SectionsComeTo
 comes_to committed h cache section view hold run keeps =
-    comes_alike committed (alone committed h section.count) h view keeps.view (alone_shape committed h section.count)
+    comes_alike committed (alone committed h section.count) h view keeps.view (keeps_alone committed h section.count)
     (output_shown committed h cache section run)
 
 pub armed_comes_to : ArmedSectionsComeTo
 armed_comes_to committed h cache armed old view run keeps =
-    comes_alike committed (alone committed h armed.count) h view keeps.view (alone_shape committed h armed.count)
+    comes_alike committed (alone committed h armed.count) h view keeps.view (keeps_alone committed h armed.count)
     (armed_runs_keep_all_but_a_view committed h cache armed run).rest.output

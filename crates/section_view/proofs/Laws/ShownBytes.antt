@@ -24,8 +24,9 @@ use Rattle.rv_flat.specs.Run.{alone}
 use Rattle.rv_flat.specs.Step.{action_of, execution_of}
 use Rattle.run_laws.proofs.Laws.Shown.{lock_at, puts_word, swap_stores, word_piece}
 use Rattle.run_laws.specs.PrivateRun.{IsCoveredRun, IsOutsideWord}
-use Rattle.section_view.proofs.Laws.Bytes.{put_bytes-here}
-use Rattle.section_view.proofs.Laws.Shapes.{alone_shape, comes_to}
+use Rattle.section_view.proofs.Laws.Shapes.{comes_to}
+use Rattle.rv_flat.proofs.Laws.PutBytes.{put_bytes-here}
+use Rattle.rv_flat.proofs.Laws.Shapes.{keeps_alone}
 use Rattle.section_view.specs.KeptRun.{KeepsRun, held_over, section_byte}
 use Rattle.section_view.specs.Laws.{ComesTo, SectionsDoAsShown, SectionsShowTheirBytes}
 use Rattle.write_hold.specs.Held.{Entry, held}
@@ -72,7 +73,7 @@ module _ (committed : FlatState) (h : ℕ) (cache : List (List Way)) (section : 
   new_value_at place low high =
       let some = run.some in
       let there = alone committed h run.before in
-      let shape = alone_shape committed h run.before in
+      let shape = keeps_alone committed h run.before in
       let base : there.base ≡ committed.base = shape.base in
       let stores = swap_stores committed h cache section run in
       let piece = word_piece there h section.word section.new stores in
@@ -84,7 +85,7 @@ module _ (committed : FlatState) (h : ℕ) (cache : List (List Way)) (section : 
       (puts_word there h section.word section.new (run.running run.before (omega (arith, some))) stores)
       ∙ put_bytes-here there.bytes (section.word - there.base) 4 section.new
       (committed.base + place - section.word) place
-      (omega (arith, base, from)) (omega arith) (omega (arith, from, end))
+      (omega (arith, from, end)) (omega arith) (omega (arith, base, from))
 
   -- outside of it
   pub held_or_committed : (place : ℕ) → IsOutsideWord section.word (committed.base + place) →
@@ -167,4 +168,4 @@ do_as_shown committed h cache section view hold under run keeps beside =
         (beside address there)
         ∙ ap (section_byte hold section.word section.new (byte_in committed.base committed.bytes)) (sym back)
         ∙ sym (shows_byte committed h cache section view hold run keeps (address - committed.base))
-        ∙ ap (λ base. byte_in base bytes address) (sym (alone_shape committed h section.count).base)
+        ∙ ap (λ base. byte_in base bytes address) (sym (keeps_alone committed h section.count).base)

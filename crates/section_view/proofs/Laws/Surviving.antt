@@ -25,7 +25,8 @@ use Rattle.run_laws.proofs.Laws.Survival.{armed_runs_survive, survives}
 use Rattle.run_laws.proofs.Laws.Touches.{IsOnBit, agree_there}
 use Rattle.run_laws.specs.PrivateRun.{IsAcquire, IsArmedRun, IsChangeBeside, IsCoveredRun, IsOutsideWord, ShowsTheSame}
 use Rattle.section_view.specs.ArmedLaws.{KeptArmedRunsSurvive}
-use Rattle.section_view.proofs.Laws.Shapes.{alone_shape, goes_on_at}
+use Rattle.section_view.proofs.Laws.Shapes.{goes_on_at}
+use Rattle.rv_flat.proofs.Laws.Shapes.{keeps_alone}
 use Rattle.section_view.specs.KeptRun.{HoldsMarked, KeepsRun, WroteLine}
 use Rattle.section_view.specs.Laws.{KeptRunsSurvive, MarksStay}
 use Rattle.write_hold.proofs.Laws.LookUps.{holds_line_of_held}
@@ -63,12 +64,12 @@ shorter committed h cache section n run some within = record {
 places_at : (h : ℕ) (cache : List (List Way)) (old new : FlatState) → IsChangeBeside h cache old new → (n : ℕ) →
     SamePlaces (alone old h n) (alone new h n)
 places_at h cache old new change n =
-    let left = alone_shape old h n in
-    let right = alone_shape new h n in
+    let left = keeps_alone old h n in
+    let right = keeps_alone new h n in
     record {
       base = right.base ∙ change.base ∙ sym left.base;
       code = right.code ∙ change.code ∙ sym left.code;
-      size = right.size ∙ change.size ∙ sym left.size;
+      size = right.length_of_bytes ∙ change.size ∙ sym left.length_of_bytes;
     }
 
 -- before an acquire, and at it, the hart's view is the same, and its first instruction touches the same

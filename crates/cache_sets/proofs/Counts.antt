@@ -1,5 +1,6 @@
 -- The counts of lines with bits and of written lines, as a bit is set and as a line leaves.
-use Rattle.std.proofs.Common.{◌≡◌, ℕ, ◌+◌, ◌-◌, ◌*◌, ◌≤◌, Bool, true, false, ◌||◌, List, length, map, ap, ◌∙◌, arith}
+use Rattle.std.proofs.Common.{◌≡◌, ℕ, ◌+◌, ◌-◌, ◌*◌, ◌≤◌, Bool, true, false, ◌||◌, List, length, map, ap}
+use Rattle.std.proofs.Common.{sym, ◌∙◌, arith}
 use Rattle.std.specs.Option.{option_map_or}
 use Rattle.std.proofs.lemmas.List.{length-map}
 use Rattle.std.proofs.lemmas.Nat.{mul-le}
@@ -10,6 +11,7 @@ use Rattle.cache_sets.specs.declared.line.Line as code
 use Rattle.cache_sets.specs.Bits.{bits_of, has_need, marks_in, with_need, writes_in}
 use Rattle.residency.specs.Residency.{is_marked, with_bit}
 use Rattle.residency.specs.Cache.{is_resident, marked, way_of, without_line, write_bits_of}
+use Rattle.cache_sets.specs.Slotted.{Slotted}
 use Rattle.cache_sets.specs.Kept.{IsSound, residency_of, shown_line}
 use Rattle.residency.specs.Cache.{marks_of}
 use Rattle.cache_sets.proofs.BitLemmas.{marks_in-bits_of, marks_in-with_need, writes_in-bits_of, writes_in-with_need}
@@ -26,6 +28,12 @@ marks_in-le bits = one_if-le (has_need Read bits || has_need Write bits)
 
 pub writes_in-le : (bits : Bits) → writes_in bits ≤ 1
 writes_in-le bits = one_if-le (has_need Write bits)
+
+-- the bits that are read in a cache are those of its fields
+pub bits-inside : {before : Bits} {inside now : Slotted} (line : ℕ) → before ≡ bits_of (way_of now.residency line) →
+    inside ≡ now → before ≡ bits_of (way_of inside.residency line)
+bits-inside {before} {inside} {now} line read is =
+    read ∙ ap (λ (cache : Slotted). bits_of (way_of cache.residency line)) (sym is)
 
 module _ (ways marks writes : ℕ) (cache : List (List code.Line)) (line : ℕ) (before : Bits)
     (sound : IsSound ways cache marks writes)

@@ -1,11 +1,9 @@
-use Rattle.std.proofs.Common.{◌-◌, ap, sym, ◌∙◌, arith}
+use Rattle.std.proofs.Common.{◌-◌, ap, ◌∙◌, arith}
 use Rattle.std.proofs.Common.{subst}
 use Rattle.line_pool.specs.Others.{LeavesOthers}
-use Rattle.cache_sets.specs.Bits.{bits_of}
-use Rattle.residency.specs.Cache.{way_of}
 use Rattle.cache_sets.specs.Slotted.{Slotted}
 use Rattle.cache_sets.proofs.After.{gone-out, leaves-after, lent-without, stands-dropped, without-after}
-use Rattle.cache_sets.proofs.Counts.{marks-after_drop, marks-below, writes-after_drop, writes-below}
+use Rattle.cache_sets.proofs.Counts.{bits-inside, marks-after_drop, marks-below, writes-after_drop, writes-below}
 use Rattle.cache_sets.proofs.Reached.{once-reached, reached}
 use Rattle.cache_sets.proofs.sets.Sets.drop_line.Goals as goal
 
@@ -28,17 +26,21 @@ give_back-requires c =
 
 pub overflow_sub-self : goal.overflow_sub-self
 overflow_sub-self c =
-    let bits =
-    c.bits-before.ensures ∙ ap (λ (v : Slotted). bits_of (way_of v.residency c.args.line.number))
-    (sym c.self.view_is) in
-    omega (arith, c.marks.ensures, marks-below _ _ _ _ _ _ c.self.invariant.sound bits)
+    omega (
+      arith,
+      c.marks.ensures,
+      marks-below _ _ _ _ _ _ c.self.invariant.sound
+          (bits-inside c.args.line.number c.bits-before.ensures c.self.view_is),
+    )
 
 pub overflow_sub-self-2 : goal.overflow_sub-self-2
 overflow_sub-self-2 c =
-    let bits =
-    c.bits-before.ensures ∙ ap (λ (v : Slotted). bits_of (way_of v.residency c.args.line.number))
-    (sym c.self.view_is) in
-    omega (arith, c.writes.ensures, writes-below _ _ _ _ _ _ c.self.invariant.sound bits)
+    omega (
+      arith,
+      c.writes.ensures,
+      writes-below _ _ _ _ _ _ c.self.invariant.sound
+          (bits-inside c.args.line.number c.bits-before.ensures c.self.view_is),
+    )
 
 pub invariant_of-self : goal.invariant_of-self
 invariant_of-self c =
@@ -46,9 +48,7 @@ invariant_of-self c =
     let at =
     reached c.as_slice.ensures.value c.set_number-number.ensures.exact c.set_number-number.ensures.within
     c.index_mut-set.ensures.value in
-    let bits =
-    c.bits-before.ensures ∙ ap (λ (v : Slotted). bits_of (way_of v.residency c.args.line.number))
-    (sym c.self.view_is) in
+    let bits = bits-inside c.args.line.number c.bits-before.ensures c.self.view_is in
     stands-dropped c.remove-gone.new.self c.self.invariant c.self.view_is at c.remove-gone.ensures.room
     c.remove-gone.ensures.left _ _
     ((λ k. i.marked - c.marks.ensures k) ∙ marks-after_drop _ _ _ _ _ _ c.self.invariant.sound bits)

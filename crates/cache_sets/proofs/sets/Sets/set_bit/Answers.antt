@@ -1,10 +1,9 @@
 use Rattle.std.proofs.Common.{◌≡◌, ◌+◌, ◌-◌, ap, subst, sym, true, ◌∙◌, arith}
-use Rattle.cache_sets.specs.Bits.{bits_of}
-use Rattle.residency.specs.Cache.{is_resident, way_of}
+use Rattle.residency.specs.Cache.{is_resident}
 use Rattle.cache_sets.specs.Slotted.{Slotted}
 use Rattle.cache_sets.proofs.After.{lent-marked, marked-after, stands-marked}
-use Rattle.cache_sets.proofs.Counts.{few-marks, few-writes, marks-after_bit, marks-below, marks_in-le, writes-after_bit}
-use Rattle.cache_sets.proofs.Counts.{writes-below, writes_in-le}
+use Rattle.cache_sets.proofs.Counts.{bits-inside, few-marks, few-writes, marks-after_bit, marks-below, marks_in-le}
+use Rattle.cache_sets.proofs.Counts.{writes-after_bit, writes-below, writes_in-le}
 use Rattle.cache_sets.proofs.Reached.{once-reached, reached}
 use Rattle.cache_sets.proofs.sets.Sets.set_bit.Goals as goal
 
@@ -15,30 +14,30 @@ set_bit-requires c =
 
 pub overflow_sub-self : goal.overflow_sub-self
 overflow_sub-self c =
-    let bits =
-    c.bits-before.ensures ∙ ap (λ (v : Slotted). bits_of (way_of v.residency c.args.line.number))
-    (sym c.self.view_is) in
-    omega (arith, c.marks.ensures, marks-below _ _ _ _ _ _ c.self.invariant.sound bits)
+    omega (
+      arith,
+      c.marks.ensures,
+      marks-below _ _ _ _ _ _ c.self.invariant.sound
+          (bits-inside c.args.line.number c.bits-before.ensures c.self.view_is),
+    )
 
 pub overflow_add-self : goal.overflow_add-self
 overflow_add-self c =
-    let bits =
-    c.bits-before.ensures ∙ ap (λ (v : Slotted). bits_of (way_of v.residency c.args.line.number))
-    (sym c.self.view_is) in
+    let bits = bits-inside c.args.line.number c.bits-before.ensures c.self.view_is in
     omega (arith, c.marks-2.ensures, marks_in-le c.with-after.result, few-marks _ _ _ _ _ _ c.self.invariant.sound bits)
 
 pub overflow_sub-self-2 : goal.overflow_sub-self-2
 overflow_sub-self-2 c =
-    let bits =
-    c.bits-before.ensures ∙ ap (λ (v : Slotted). bits_of (way_of v.residency c.args.line.number))
-    (sym c.self.view_is) in
-    omega (arith, c.writes.ensures, writes-below _ _ _ _ _ _ c.self.invariant.sound bits)
+    omega (
+      arith,
+      c.writes.ensures,
+      writes-below _ _ _ _ _ _ c.self.invariant.sound
+          (bits-inside c.args.line.number c.bits-before.ensures c.self.view_is),
+    )
 
 pub overflow_add-self-2 : goal.overflow_add-self-2
 overflow_add-self-2 c =
-    let bits =
-    c.bits-before.ensures ∙ ap (λ (v : Slotted). bits_of (way_of v.residency c.args.line.number))
-    (sym c.self.view_is) in
+    let bits = bits-inside c.args.line.number c.bits-before.ensures c.self.view_is in
     omega (
       arith,
       c.writes-2.ensures,
@@ -52,9 +51,7 @@ invariant_of-self c =
     let at =
     reached c.as_slice.ensures.value c.set_number-number.ensures.exact c.set_number-number.ensures.within
     c.index_mut-set.ensures.value in
-    let bits =
-    c.bits-before.ensures ∙ ap (λ (v : Slotted). bits_of (way_of v.residency c.args.line.number))
-    (sym c.self.view_is) in
+    let bits = bits-inside c.args.line.number c.bits-before.ensures c.self.view_is in
     let resident =
     subst (λ (v : Slotted). is_resident v.residency c.args.line.number ≡ true) (sym c.self.view_is) c.requires in
     stands-marked c.set_bit.new.self c.self.invariant c.self.view_is at c.set_bit.ensures.room c.args.need

@@ -1,5 +1,6 @@
 -- Laws of lent caches for the layers above: what other owners' calls leave of them, and how they begin.
 pub mod AbsentLines
+pub mod BitsOfWays
 use Rattle.std.proofs.Common.{◌≡◌, ◌≢◌, ℕ, zero, suc, ◌*◌, ◌≤◌, if◌then◌else◌, List, [], ◌∷◌, map, replicate, refl, ap}
 use Rattle.std.proofs.Common.{sym, subst, ◌∙◌, arith}
 use Rattle.std.specs.List.{flat_map}

@@ -1,5 +1,5 @@
 ghost use Rattle.std.specs.Prelude.{⊤, ◌≡◌, [], ◌∷◌, codes};
-ghost use Rattle.cache_sets.specs.Bits.{bits_of_need, marks_in, with_need, writes_in};
+ghost use Rattle.cache_sets.specs.Bits.{bits_of_need, has_need, marks_in, with_need, writes_in};
 
 use bitflags::{Flag, Flags, bitflag_items};
 use el_base::Need;
@@ -50,18 +50,25 @@ impl Bits {
         }
     }
 
+    /// Whether the bit of a need is among these.
+    pub fn has(self, need: Need) -> bool
+        ensures { result ≡ has_need need self }
+    {
+        self.contains(Bits::of(need))
+    }
+
     /// How many lines with bits a line with these is: one, or none without bits.
     pub(crate) fn marks(self) -> u16
         ensures { result ≡ marks_in self }
     {
-        u16::from(self.contains(Bits::READ) || self.contains(Bits::WRITE))
+        u16::from(self.has(Need::Read) || self.has(Need::Write))
     }
 
     /// How many written lines a line with these bits is.
     pub(crate) fn writes(self) -> u16
         ensures { result ≡ writes_in self }
     {
-        u16::from(self.contains(Bits::WRITE))
+        u16::from(self.has(Need::Write))
     }
 
     /// These bits and the one of a need.

@@ -3,7 +3,7 @@ ghost use Rattle.cache_sets.specs.Kept.{new_way};
 
 use crate::bits::Bits;
 use bitflags::Flags;
-use el_base::LineAddr;
+use el_base::{LineAddr, Need};
 use moesi::Letter;
 
 /// What is known of a line in a set.
@@ -33,7 +33,7 @@ impl Way {
     pub fn is_marked(&self) -> bool
         ensures { result ≡ is_marked (shown_way self.now) }
     {
-        self.bits.contains(Bits::READ) || self.bits.contains(Bits::WRITE)
+        self.bits.has(Need::Read) || self.bits.has(Need::Write)
     }
 
     /// The way without bits.
@@ -50,7 +50,7 @@ impl Way {
     pub fn committed(self) -> Way
         ensures { result ≡ committed_way self }
     {
-        let letter = if self.bits.contains(Bits::WRITE) {
+        let letter = if self.bits.has(Need::Write) {
             Letter::M
         } else {
             self.letter

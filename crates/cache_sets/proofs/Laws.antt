@@ -1,7 +1,7 @@
 -- Laws of lent caches for the layers above: what other owners' calls leave of them, and how they begin.
 pub mod AbsentLines
 pub mod BitsOfWays
-use Rattle.std.proofs.Common.{◌≡◌, ◌≢◌, ℕ, zero, suc, ◌*◌, ◌≤◌, if◌then◌else◌, List, [], ◌∷◌, map, replicate, refl, ap}
+use Rattle.std.proofs.Common.{◌≡◌, ◌≢◌, ℕ, zero, suc, ◌*◌, ◌≤◌, List, [], ◌∷◌, map, replicate, refl, ap}
 use Rattle.std.proofs.Common.{sym, subst, ◌∙◌, arith}
 use Rattle.std.specs.List.{flat_map}
 use Rattle.std.specs.Prelude.{slice_index}
@@ -10,7 +10,7 @@ use Rattle.std.proofs.lemmas.List.{length-replicate}
 use Rattle.std.proofs.lemmas.List.Sums.{sum_by-append, sum_by-cons}
 use Rattle.line_pool.specs.declared.slot.Slot.{Slot}
 use Rattle.line_pool.specs.Calls.{IsMade}
-use Rattle.line_pool.specs.Keeping.{Keeps, same_slot, times_among}
+use Rattle.line_pool.specs.Keeping.{Keeps, times_among}
 use Rattle.line_pool.specs.Others.{LeavesOthers}
 use Rattle.line_pool.specs.Pooled.{Pooled, bytes_of, out_of, quota_of}
 use Rattle.line_pool.proofs.Laws.{keeps-none}
@@ -18,9 +18,7 @@ use Rattle.line_pool.proofs.Laws.OtherLaws.{bytes-left, keeps-left, quota-left}
 use Rattle.cache_sets.specs.Cached.{empty_cached}
 use Rattle.residency.specs.Residency.{Way}
 use Rattle.cache_sets.specs.Slotted.{IsLent, Slotted, empty_slotted, lent, slots_of}
-
-abbrev one_at : Slot → Slot → ℕ
-one_at slot other = if same_slot other slot then 1 else 0
+use Rattle.cache_sets.proofs.Slots.{one_at}
 
 -- slots with the same bytes in two pools
 module _ (old new : Slot → List ℕ) where

@@ -2,7 +2,7 @@
 -- begin, and when they are full.
 pub mod Masks
 pub mod LookUps
-use Rattle.std.proofs.Common.{◌≡◌, ◌≢◌, ℕ, ◌≤◌, ◌<◌, if◌then◌else◌, List, [], ◌∷◌, length, map, refl, ap, sym, subst}
+use Rattle.std.proofs.Common.{◌≡◌, ◌≢◌, ℕ, ◌≤◌, ◌<◌, List, [], ◌∷◌, length, map, refl, ap, sym, subst}
 use Rattle.std.proofs.Common.{◌∙◌, arith}
 use Rattle.std.specs.Prelude.{◌↔◌, false, slice_index}
 use Rattle.std.proofs.lemmas.Bool.Decides.{nat_tests}
@@ -10,7 +10,7 @@ use Rattle.std.proofs.lemmas.List.{length-map}
 use Rattle.std.proofs.lemmas.List.Sums.{sum_by-cons}
 use Rattle.line_pool.specs.declared.slot.Slot.{Slot}
 use Rattle.line_pool.specs.Calls.{IsMade}
-use Rattle.line_pool.specs.Keeping.{same_slot, times_among}
+use Rattle.line_pool.specs.Keeping.{times_among}
 use Rattle.line_pool.specs.Others.{LeavesOthers}
 use Rattle.line_pool.specs.Pooled.{Pooled, bytes_of, out_of, quota_of, quotas_of}
 use Rattle.line_pool.proofs.Laws.{keeps-none}
@@ -18,9 +18,7 @@ use Rattle.line_pool.proofs.Laws.OtherLaws.{bytes-left, keeps-left, quota-left}
 use Rattle.write_hold.specs.Calls.{IsFull}
 use Rattle.write_hold.specs.Held.{holds}
 use Rattle.write_hold.specs.Slotted.{IsLent, Place, Slotted, lent, lent_entry, slots_of}
-
-abbrev one_at : Slot → Slot → ℕ
-one_at slot other = if same_slot other slot then 1 else 0
+use Rattle.write_hold.proofs.Slots.{one_at}
 
 -- lines whose slots have the same bytes in two pools
 same_entries : (old new : Pooled) (entries : List Place)

@@ -57,7 +57,7 @@ slots_are : (entries : List code.Entry) →
 slots_are [] = refl
 slots_are (e ∷ entries) = ap (λ rest. e.slot ∷ rest) (slots_are entries)
 
-abbrev one_at : Slot → Slot → ℕ
+abbrev pub one_at : Slot → Slot → ℕ
 one_at slot other = if same_slot other slot then 1 else 0
 
 pub count-shown : (limit owner : ℕ) (entries : List code.Entry) →

@@ -17,7 +17,9 @@ use Rattle.mail.proofs.Laws.LookUps.{has_posted_other}
 use Rattle.mail.proofs.Laws.OnceEach.{count_of, count_of_cons, once_each_none, once_each_posted}
 use Rattle.mail.proofs.Laws.OnceEach.{once_each_without_oldest, same_is_one}
 use Rattle.mail.proofs.Laws.OnceEach.{first_there}
+use Rattle.section_laws.proofs.Laws.Mailboxes.{later_there}
 use Rattle.section_laws.specs.Messages.{IsMailbox, IsOther, IsSetOfOthers, named, origins, senders}
+use Rattle.el_base.proofs.Laws.Cases.{false_true}
 use Rattle.el_base.proofs.Laws.Tests.{number_of_test, own_test}
 
 -- a mailbox without messages, and a set without harts
@@ -46,14 +48,6 @@ NameOthers count h [] = Unit {0}
 NameOthers count h (message ∷ messages) = IsOther count h (named message) × NameOthers count h messages
 
 -- the oldest message is taken
-rest_there : (first message : Message) (box : List Message) → has_message box message ≡ true →
-    has_message (first ∷ box) message ≡ true
-rest_there first message box is = by (same_message first message) is
-  where
-    by : (test : Bool) → has_message box message ≡ true → cond test true (has_message box message) ≡ true
-    by true is = refl
-    by false is = is
-
 pub oldest_other : (count h : ℕ) (first : Message) (box : List Message) → IsMailbox count h (first ∷ box) →
     IsOther count h (named first)
 oldest_other count h first box now = now.others first (first_there first box)
@@ -62,7 +56,7 @@ pub mailbox_taken : (count h : ℕ) (first : Message) (box : List Message) → I
     IsMailbox count h box
 mailbox_taken count h first box now = record {
   once = once_each_without_oldest (first ∷ box) now.once;
-  others = λ message is. now.others message (rest_there first message box is);
+  others = λ message is. now.others message (later_there first box message is);
 }
 
 -- some of the messages are taken out
@@ -88,7 +82,7 @@ part_kept first new old part = record {
 part_gone : (first : Message) (new old : List Message) → IsPart new old → IsPart new (first ∷ old)
 part_gone first new old part = record {
   counts = λ message. let rest = part.counts message in omega (arith, rest, count_of_cons first old message);
-  there = λ message is. rest_there first message old (part.there message is);
+  there = λ message is. later_there first old message (part.there message is);
 }
 
 part_twice : (one two three : List Message) → IsPart one two → IsPart two three → IsPart one three
@@ -147,13 +141,10 @@ others_excluded count h harts gone now = record {
   once = once_each_excluded harts gone now.once;
   others = λ g is.
       elim (cases_eq g gone) [
-        | inl same ↦ never (sym (has_excluded_own harts gone) ∙ ap (has (excluded harts gone)) (sym same) ∙ is)
+        | inl same ↦ false_true (sym (has_excluded_own harts gone) ∙ ap (has (excluded harts gone)) (sym same) ∙ is)
         | inr apart ↦ now.others g (sym (has_excluded_other harts gone g (λ same. apart (sym same))) ∙ is)
       ];
 }
-  where
-    never : {X : Type 0} → false ≡ true → X
-    never wrong = absurd (cc)
 
 -- a set of harts that lists none twice is no longer than the harts are many
 length_excluded : (harts : List ℕ) (gone : ℕ) →
@@ -182,11 +173,9 @@ few_harts (suc count) harts once below =
     (λ k is. less k is (cases_eq k count)) in
     omega (arith, rest, length_excluded harts count, once count)
   where
-    never : {X : Type 0} → false ≡ true → X
-    never wrong = absurd (cc)
-
     less : (k : ℕ) → has (excluded harts count) k ≡ true → (k ≡ count) ⊎ (k ≡ count → ⊥) → k < count
-    less k is (inl same) = never (sym (has_excluded_own harts count) ∙ ap (has (excluded harts count)) (sym same) ∙ is)
+    less k is (inl same) =
+        false_true (sym (has_excluded_own harts count) ∙ ap (has (excluded harts count)) (sym same) ∙ is)
     less k is (inr apart) =
         let most = below k (sym (has_excluded_other harts count k (λ same. apart (sym same))) ∙ is) in
         le_or k apart most

@@ -1,4 +1,7 @@
 -- the laws that are offered to the crates above; every other file here is private
+pub mod NewHarts
+pub mod Placed
+pub mod Mailboxes
 pub mod Moves
 pub mod EachKept
 pub mod Statuses
@@ -6,6 +9,7 @@ pub mod Waiting
 pub mod Numbered
 pub mod OrderedHarts
 pub mod SectionSteps
+pub mod Endings
 pub mod Lengths
 pub mod Accounts
 pub mod Bits

@@ -23,7 +23,7 @@ use Rattle.el_model.specs.RollBack.{beaten, most_tries, out_of_section}
 use Rattle.el_model.specs.Serve.{bystander, served_hart, with_claim}
 use Rattle.el_model.specs.State.{Hart, ModelState, begin, hart_of, new_hart, ordered_of, raised_of}
 use Rattle.el_model.specs.Upcoming.{Swap}
-use Rattle.el_model.proofs.Laws.AllHarts.{all_first}
+use Rattle.section_laws.proofs.Laws.NewHarts.{each_new}
 use Rattle.el_model.proofs.Laws.BusEvents.{by_event, with_mail}
 use Rattle.el_model.proofs.Laws.EachHart.{Each}
 use Rattle.el_model.proofs.Laws.FromStart.{kept_after}
@@ -253,8 +253,9 @@ first_mailed program config = record {
   many = length-replicate program.harts (new_hart config.sets);
   once = first_once program config;
   below = λ h request is. none_some is;
-  each = λ h. at_first h (all_first HasNoMessages program.harts (new_hart config.sets) (new_hart 0)
-      (record { mail = refl; told = refl; upstream = refl }) (record { mail = refl; told = refl; upstream = refl }) h);
+  each = λ h.
+      at_first h
+      (each_new HasNoMessages program config (λ sets. record { mail = refl; told = refl; upstream = refl }) h);
 }
   where
     at_first : (h : ℕ) → HasNoMessages (hart_of (begin program config) h) →

@@ -15,7 +15,7 @@ use Rattle.residency.proofs.Laws.CacheLemmas.{way_of-marked_other}
 use Rattle.residency.proofs.Laws.CacheLemmas.{way_of-marked_same, way_of-touched, way_of-without_line_other}
 use Rattle.residency.proofs.Laws.CacheLemmas.{way_of-without_line_same}
 use Rattle.el_base.specs.declared.outcomes.Need.{Need}
-use Rattle.el_base.proofs.Laws.Cases.{none_some}
+use Rattle.el_base.proofs.Laws.Cases.{clash, none_some}
 use Rattle.moesi.specs.Letters.{may_write}
 use Rattle.moesi.specs.declared.letter.Letter.{Letter}
 use Rattle.moesi.specs.declared.letter.Letter.TheVariants.{O}
@@ -167,22 +167,16 @@ together_kept a b (Some c) None first second now = tt
 together_kept None b (Some c) (Some d) first second now = elim first [ ]
 together_kept (Some a) None (Some c) (Some d) first second now = elim second [ ]
 together_kept (Some a) (Some b) (Some c) (Some d) first second now = record {
-  one_shared = unless (may_write c.letter) (λ may. refused now.one_shared (first.write may));
-  other_shared = unless (may_write d.letter) (λ may. refused now.other_shared (second.write may));
+  one_shared = unless (may_write c.letter) (λ may. clash now.one_shared (first.write may));
+  other_shared = unless (may_write d.letter) (λ may. clash now.other_shared (second.write may));
   one_owner = λ c_owns d_owns. owners (first.owner c_owns) (second.owner d_owns);
 }
   where
-    refused : {X : Type 0} {may : Bool} → may ≡ false → may ≡ true → X
-    refused without with_it = wrong (sym without ∙ with_it)
-      where
-        wrong : {X : Type 0} → false ≡ true → X
-        wrong is = absurd (cc)
-
     unless : (may : Bool) → (may ≡ true → ⊥) → may ≡ false
     unless true never = absurd (never refl)
     unless false never = refl
 
     owners : (a.letter ≡ O) ⊎ (may_write a.letter ≡ true) → (b.letter ≡ O) ⊎ (may_write b.letter ≡ true) → ⊥
     owners (inl a_owns) (inl b_owns) = now.one_owner a_owns b_owns
-    owners (inr may) other = refused now.one_shared may
-    owners (inl a_owns) (inr may) = refused now.other_shared may
+    owners (inr may) other = clash now.one_shared may
+    owners (inl a_owns) (inr may) = clash now.other_shared may

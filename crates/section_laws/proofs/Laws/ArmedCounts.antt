@@ -14,14 +14,14 @@ use Rattle.el_model.specs.Deed.{Arms, Begins, Buffers, Commits, Continues, Deed,
 use Rattle.el_model.specs.Deed.{Rests, RollsBack, Runs, Waits, hart_after}
 use Rattle.el_model.specs.Next.{next}
 use Rattle.el_model.specs.Plain.{candidate_of}
-use Rattle.el_model.specs.State.{Armed, Hart, ModelState, begin, hart_of, new_hart}
-use Rattle.el_model.proofs.Laws.AllHarts.{all_first}
+use Rattle.el_model.specs.State.{Armed, Hart, ModelState, begin, hart_of}
 use Rattle.el_model.proofs.Laws.FromStart.{kept_after, next_config}
 use Rattle.section_laws.specs.EachHart.{IsShortArmed}
 use Rattle.section_laws.specs.Laws.{ArmedSectionsAreShort}
 use Rattle.el_model.proofs.Laws.EachHart.{Each}
 use Rattle.el_model.proofs.Laws.HartParts.{candidate_armed, claim_armed}
 use Rattle.section_laws.proofs.Laws.EachKept.{BusKept, event_keeps}
+use Rattle.section_laws.proofs.Laws.NewHarts.{each_new}
 
 abbrev Short : ℕ → Hart → Type 0
 Short long hart = (armed : Armed) → hart.armed ≡ Some armed → IsShortArmed long armed
@@ -96,9 +96,7 @@ unfolding begin
 first_within program config range = record {
   long_is = refl;
   two = at_least 2 65536 config.long (ranges config range).long;
-  each = λ h.
-      all_first (Short config.long) program.harts (new_hart config.sets) (new_hart 0) (λ armed is. none_some is)
-      (λ armed is. none_some is) h;
+  each = each_new (Short config.long) program config (λ sets armed is. none_some is);
 }
 
 pub armed_sections_are_short : ArmedSectionsAreShort

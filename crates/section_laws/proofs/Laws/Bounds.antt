@@ -24,7 +24,7 @@ use Rattle.el_base.specs.declared.events.Event.{Event}
 use Rattle.el_base.specs.declared.outcomes.Need.{Need}
 use Rattle.el_base.specs.declared.outcomes.Need.TheVariants.{Read, Write}
 use Rattle.el_base.proofs.Laws.Ranges.{at_least, ranges}
-use Rattle.el_base.proofs.Laws.Cases.{none_some, some_none}
+use Rattle.el_base.proofs.Laws.Cases.{none_some, not_both, some_none}
 use Rattle.elf_image.specs.Program.{Program}
 use Rattle.el_model.specs.BusEvent.{IsBusEvent, Nothing, Places, Serves, Start, StartsWhere, Takes, having_taken}
 use Rattle.el_model.specs.BusEvent.{order_after, order_at, started}
@@ -181,10 +181,7 @@ coverable : (state : ModelState) (h : ℕ) (section : Section) (touch : Option T
     IsConfigured state.config (cache_of state h) → IsCoverable state h section touch →
     MayCover state.config (cache_of state h) touch
 coverable state h section None now may = tt
-coverable state h section (Some touch) now (inl has) = λ new. absurd (no (sym has ∙ new))
-  where
-    no : true ≡ false → ⊥
-    no wrong = absurd (cc)
+coverable state h section (Some touch) now (inl has) = λ new. not_both has new
 coverable state h section (Some touch) now (inr (room, permitted)) =
     λ new write. not_full state h touch.need now room.not_full write
 

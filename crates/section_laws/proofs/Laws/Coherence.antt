@@ -1,11 +1,10 @@
 -- in every state that can be reached the copies of a line may be together, and written lines are owned
-use Rattle.std.proofs.Common.{◌≡◌, ◌≢◌, ◌∙◌, ◌<◌, ◌≤◌, ◌+◌, ◌==◌, ℕ, zero, suc, Bool, true, false, ◌&&◌, ◌||◌, not}
+use Rattle.std.proofs.Common.{◌≡◌, ◌≢◌, ◌∙◌, ◌<◌, ◌≤◌, ◌+◌, ◌==◌, ℕ, zero, suc, Bool, true, false, ◌&&◌, not}
 use Rattle.std.proofs.Common.{List, [], ◌∷◌, length, Option, None, Some, is_some, refl, ap, sym, subst, inl, inr, ◌⊎◌}
 use Rattle.std.proofs.Common.{arith, if◌then◌else◌}
 use Rattle.std.specs.List.{list_any}
 use Rattle.std.specs.Prelude.{nat_lt}
 use Rattle.std.proofs.lemmas.Bool.{cases_eq, ltb-true, ltb-false}
-use Rattle.std.proofs.lemmas.Bool.Decides.{nat_tests}
 use Rattle.bus_order.specs.Order.{Request}
 use Rattle.residency.specs.Cache.{bit_in, is_resident, letter_in, letter_of, marked, touched, way_of}
 use Rattle.residency.specs.Residency.{Way, way_in, with_bit, with_letter}
@@ -15,7 +14,8 @@ use Rattle.el_base.specs.declared.config.Config.{Config}
 use Rattle.el_base.specs.declared.events.Event.{Event}
 use Rattle.el_base.specs.declared.outcomes.Need.{Need}
 use Rattle.el_base.specs.declared.outcomes.Need.TheVariants.{Read, Write}
-use Rattle.el_base.proofs.Laws.Tests.{number_of_test, other_test}
+use Rattle.el_base.proofs.Laws.Cases.{clash}
+use Rattle.el_base.proofs.Laws.Tests.{apart_by_test, first_not, number_of_test, other_test, second_not, unrefused}
 use Rattle.elf_image.specs.Program.{Program}
 use Rattle.el_model.specs.BusEvent.{Becomes, IsBusEvent, Nothing, Places, Serves, Start, StartsWhere, Takes}
 use Rattle.el_model.specs.BusEvent.{having_taken, started}
@@ -30,7 +30,6 @@ use Rattle.el_model.specs.Serve.{with_claim}
 use Rattle.el_model.specs.State.{Hart, ModelState, Section, Turn, begin, cache_of, count_up, hart_of, new_hart}
 use Rattle.el_model.specs.State.{section_of}
 use Rattle.el_model.specs.Upcoming.{Touch}
-use Rattle.el_model.proofs.Laws.AllHarts.{all_first}
 use Rattle.el_model.proofs.Laws.BusEvents.{by_event}
 use Rattle.el_model.proofs.Laws.FromStart.{kept_after}
 use Rattle.el_model.proofs.Laws.Harts.{hart_of-each_hart, hart_of-each_hart_past, hart_of-past}
@@ -45,6 +44,7 @@ use Rattle.section_laws.proofs.Laws.ArmedBits as bits
 use Rattle.section_laws.proofs.Laws.EachKept as kept
 use Rattle.section_laws.proofs.Laws.FreeLines.{NotWritten, free_line}
 use Rattle.section_laws.proofs.Laws.Moves.{Moves, moved, step_keeps, taken_keeps}
+use Rattle.section_laws.proofs.Laws.NewHarts.{each_new}
 use Rattle.section_laws.proofs.Laws.Numbered.{Once, first_once, next_once}
 use Rattle.section_laws.proofs.OnlyInside as inside
 use Rattle.section_laws.proofs.Serving.{IsModified, own_owned, own_together, steady_others, steady_own, steady_owned}
@@ -122,11 +122,7 @@ marked_steady cache line need may l =
 
 permitted_of : (state : ModelState) (h : ℕ) (touch : Touch) → is_refused state h touch ≡ false →
     permits state h touch ≡ true
-permitted_of state h touch is = by (permits state h touch) _ is
-  where
-    by : (a b : Bool) → (not a || b) ≡ false → a ≡ true
-    by true b none = refl
-    by false b none = absurd (cc)
+permitted_of state h touch is = unrefused (permits state h touch) _ is
 
 covered_steady : (state : ModelState) (h : ℕ) (section : Section) (touch : Touch) →
     IsCoverable state h section (Some touch) → IsSteady (cache_of state h) (covered (cache_of state h) (Some touch))
@@ -181,17 +177,9 @@ none_any : (test : ℕ → Bool) (from number k : ℕ) (harts : List Hart) → l
     k < length harts → number ≡ from + k → test number ≡ false
 none_any test from number k [] none below is = absurd (omega arith)
 none_any test from number zero (hart ∷ harts) none below is =
-    let same : number ≡ from = omega (arith, is) in rw same (first (test from) _ none)
-  where
-    first : (a b : Bool) → (a || b) ≡ false → a ≡ false
-    first true b wrong = wrong
-    first false b wrong = refl
+    let same : number ≡ from = omega (arith, is) in rw same (first_not (test from) _ none)
 none_any test from number (suc k) (hart ∷ harts) none below is =
-    none_any test (suc from) number k harts (second (test from) _ none) (omega (arith, below)) (omega (arith, is))
-  where
-    second : (a b : Bool) → (a || b) ≡ false → b ≡ false
-    second true b wrong = absurd (cc)
-    second false b wrong = wrong
+    none_any test (suc from) number k harts (second_not (test from) _ none) (omega (arith, below)) (omega (arith, is))
 
 absent_elsewhere : (state : ModelState) (h g line : ℕ) → g ≢ h → g < length state.harts →
     others_have state h line ≡ false → is_resident (cache_of state g) line ≡ false
@@ -332,9 +320,6 @@ data Whose (state : ModelState) (request : Request) (g : ℕ) (cache : List (Lis
 whose : (state : ModelState) (request : Request) (g : ℕ) → Whose state request g (cache_of (served state request) g)
 whose state request g = by (served_cache state request g) (g == request.hart) refl
   where
-    differs : (a b : ℕ) → a ≡ b → (a == b) ≡ false → ⊥
-    differs a b same test = grind (arith, nat_tests)
-
     by : ServedCache state request g → (own : Bool) → (g == request.hart) ≡ own →
         Whose state request g (cache_of (served state request) g)
     by (inl none) own is = Nobody none
@@ -344,7 +329,7 @@ whose state request g = by (served_cache state request g) (g == request.hart) re
         (cache ∙ serving_cache state request g true is
         ∙ ap (λ k. (served_hart state request (hart_of state k)).cache) same)
     by (inr (below, cache)) false is =
-        Other (λ same. differs g request.hart same is) below (cache ∙ serving_cache state request g false is)
+        Other (apart_by_test g request.hart is) below (cache ∙ serving_cache state request g false is)
 
 pair_together : (state : ModelState) (request : Request) (g h l : ℕ) (one other : List (List Way)) →
     IsFree state request → Stands state → g ≢ h → Whose state request g one → Whose state request h other →
@@ -465,18 +450,13 @@ record IsEmpty (hart : Hart) : Type 0 where
 new_is_empty : (sets : ℕ) → IsEmpty (new_hart sets)
 new_is_empty sets = record { none = λ line. ap (λ set. way_in set line) (set_of-empty_cache sets line) }
 
-first_empty : (program : Program) (config : Config) (h : ℕ) → IsEmpty (hart_of (begin program config) h)
-unfolding begin
-first_empty program config h =
-    all_first IsEmpty program.harts (new_hart config.sets) (new_hart 0) (new_is_empty config.sets) (new_is_empty 0) h
-
 pub first_holds : (program : Program) (config : Config) → Holds (begin program config)
 first_holds program config = record {
   once = first_once program config;
   inside = kept.first_each inside.kept program config;
   alone = kept.first_each bits.kept program config;
-  together = λ g h apart line. rw ((first_empty program config g).none line) tt;
-  owned = λ h line. rw ((first_empty program config h).none line) tt;
+  together = λ g h apart line. rw ((each_new IsEmpty program config new_is_empty g).none line) tt;
+  owned = λ h line. rw ((each_new IsEmpty program config new_is_empty h).none line) tt;
 }
 
 pub always_holds : (program : Program) (config : Config) (events : List Event) → Holds (after program config events)
@@ -492,10 +472,7 @@ written_lines_may_be_written program config events = (always_holds program confi
 nowhere_else : (one other : Option Way) → bit_in Write one ≡ true → IsOwned one → MayBeTogether one other → other ≡ None
 nowhere_else one None wrote owned now = refl
 nowhere_else None (Some other) wrote owned now = absurd (cc)
-nowhere_else (Some one) (Some other) wrote owned now = never (sym now.one_shared ∙ owned wrote)
-  where
-    never : {X : Type 0} → false ≡ true → X
-    never is = absurd (cc)
+nowhere_else (Some one) (Some other) wrote owned now = clash now.one_shared (owned wrote)
 
 pub written_lines_are_elsewhere_in_no_cache : WrittenLinesAreElsewhereInNoCache
 written_lines_are_elsewhere_in_no_cache program config events g h line apart wrote =

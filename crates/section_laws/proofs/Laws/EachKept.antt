@@ -11,12 +11,12 @@ use Rattle.el_model.specs.Deed.{Deed, DoesWhere, hart_after}
 use Rattle.el_model.specs.Next.{after, kind_turn, next}
 use Rattle.el_model.specs.Serve.{bystander, served_hart}
 use Rattle.el_model.specs.State.{Hart, ModelState, Turn, begin, hart_of, new_hart}
-use Rattle.el_model.proofs.Laws.AllHarts.{all_first}
 use Rattle.el_model.proofs.Laws.BusEvents.{bus_event, by_event}
 use Rattle.el_model.proofs.Laws.EachHart.{Each}
 use Rattle.el_model.proofs.Laws.FromStart.{kept_after}
 use Rattle.el_model.proofs.Laws.Tests.{by_hart}
 use Rattle.section_laws.proofs.Laws.Moves.{Moves, moved, step_keeps, taken_keeps}
+use Rattle.section_laws.proofs.Laws.NewHarts.{each_new}
 
 -- what is said of each hart is kept by the events of the bus
 pub record BusKept (P : ℕ → Hart → Type 0) : Type 0 where
@@ -80,9 +80,7 @@ module _ {P : Hart → Type 0} (kept : EachKept P) where
       (λ deed does. kept.deed state event.hart.number deed does (each event.hart.number)) each
 
   pub first_each : (program : Program) (config : Config) → Each (λ h hart. P hart) (begin program config)
-  unfolding begin
-  first_each program config h =
-      all_first P program.harts (new_hart config.sets) (new_hart 0) (kept.new config.sets) (kept.new 0) h
+  first_each program config = each_new P program config kept.new
 
   pub always_each : (program : Program) (config : Config) (events : List Event) →
       Each (λ h hart. P hart) (after program config events)

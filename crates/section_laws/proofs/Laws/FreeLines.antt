@@ -3,7 +3,6 @@ use Rattle.std.proofs.Common.{◌≡◌, ◌≢◌, ◌∙◌, ◌<◌, ◌+◌,
 use Rattle.std.proofs.Common.{length, Option, None, Some}
 use Rattle.std.proofs.Common.{is_some, refl, ap, sym, arith, if◌then◌else◌}
 use Rattle.std.specs.List.{list_any}
-use Rattle.std.proofs.lemmas.Bool.Decides.{nat_tests}
 use Rattle.bus_order.specs.Order.{IsOneEach, Request, first_of, request_of}
 use Rattle.bus_order.proofs.Laws.Queues.{hart_of_request_of, request_of_first_of}
 use Rattle.residency.specs.Cache.{bit_in, has_marks, set_number, set_of, way_of}
@@ -11,7 +10,7 @@ use Rattle.residency.specs.Residency.{Way, is_marked, way_in}
 use Rattle.residency.proofs.Laws.Unmarked.{bare_at}
 use Rattle.el_base.specs.declared.outcomes.Need.TheVariants.{Read, Write}
 use Rattle.el_base.specs.declared.outcomes.Why.{Why}
-use Rattle.el_base.proofs.Laws.Tests.{first_not, number_of_test, other_test, second_not}
+use Rattle.el_base.proofs.Laws.Tests.{apart_by_test, first_not, number_of_test, other_test, second_not}
 use Rattle.el_model.specs.Conflicts.{conflicts_with, first_such, meets_bit, retainer_of, retains}
 use Rattle.el_model.specs.Serve.{Free, Obstacle, blocks_if, obstacle_to, other_head}
 use Rattle.el_model.specs.State.{Armed, Hart, ModelState, Section, armed_of, cache_of, count_up, hart_of, head_of}
@@ -77,16 +76,13 @@ has_head (first ∷ order) h request is none =
     same_request : (a b : Request) → Some a ≡ Some b → a ≡ b
     same_request a b same = cc
 
-    differs : (a b : ℕ) → a ≡ b → (a == b) ≡ false → ⊥
-    differs a b same test = grind (arith, nat_tests)
-
     by : (own on_line : Bool) → (first.line == request.line) ≡ on_line →
         (request_of order h ≡ Some request → first_of order request.line ≡ None → ⊥) →
         (if own then Some first else request_of order h) ≡ Some request →
         (if on_line then Some first else first_of order request.line) ≡ None → ⊥
     by own true test rest is none = absurd (cc)
     by true false test rest is none =
-        differs first.line request.line (ap (λ r. r.line) (same_request first request is)) test
+        apart_by_test first.line request.line test (ap (λ r. r.line) (same_request first request is))
     by false false test rest is none = rest is none
 
 pub head_is : (state : ModelState) (h : ℕ) (request : Request) (head : Option Request) → IsOneEach state.order →

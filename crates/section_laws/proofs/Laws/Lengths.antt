@@ -16,7 +16,6 @@ use Rattle.el_model.specs.State.{ModelState, Turn, begin, new_hart}
 use Rattle.el_model.proofs.Laws.BusEvents.{by_event}
 use Rattle.el_model.proofs.Laws.Deeds.{step_deed}
 use Rattle.rv_flat.specs.FlatState.{first_view, start, status_of}
-use Rattle.rv_flat.specs.Step.{flat}
 use Rattle.rv_flat.proofs.Laws.StepLaws.{harts-run, keeps_shape}
 use Rattle.rv_flat.proofs.Laws.RunsAfter.{runs-exists}
 use Rattle.rv_alu.specs.declared.view.HartStatus.TheVariants.{Running}

@@ -2,12 +2,9 @@
 use Rattle.std.proofs.Common.{◌≡◌, ◌≢◌, ◌∙◌, ◌==◌, ◌&&◌, ◌||◌, ◌⊎◌, ℕ, Bool, true, false, not, List, [], ◌∷◌, Option}
 use Rattle.std.proofs.Common.{None, Some, is_some, option_map}
 use Rattle.std.proofs.Common.{refl, ap, sym, subst, inl, inr, if◌then◌else◌}
-use Rattle.std.specs.Option.{option_or}
 use Rattle.std.proofs.lemmas.Bool.{cases_eq, false_from_ne_true}
 use Rattle.std.proofs.lemmas.Option.{same_Some}
 use Rattle.bus_order.specs.Order.{IsOneEach, Request, first_of, removed}
-use Rattle.bus_order.proofs.Laws.LookUps.{first_of_appended_other, first_of_appended_own, first_of_in_front_of_other}
-use Rattle.bus_order.proofs.Laws.LookUps.{first_of_in_front_of_own}
 use Rattle.bus_order.proofs.Laws.Queues.{first_of_removed_other, hart_of_request_of, line_of_first_of}
 use Rattle.residency.specs.Cache.{bit_in, has_bit, is_resident, letter_in, letter_of, lettered, marked, read_bit}
 use Rattle.residency.specs.Cache.{touched, way_of, write_bit}
@@ -25,20 +22,18 @@ use Rattle.elf_image.specs.Program.{Program}
 use Rattle.el_model.specs.Armed.{freed_hart, is_freed, let_go, let_go_hart}
 use Rattle.el_model.specs.BusEvent.{IsBusEvent, Nothing, Places, Serves, Start, StartsWhere, Takes, as_met, faced_head}
 use Rattle.el_model.specs.BusEvent.{having_taken}
-use Rattle.el_model.specs.BusEvent.{order_after, order_at, started}
+use Rattle.el_model.specs.BusEvent.{order_after, started}
 use Rattle.el_model.specs.Conflicts.{is_asked, is_wanted_to_write, is_write, writes}
 use Rattle.el_model.specs.Deed.{Arms, Begins, Buffers, Commits, Continues, Deed, DoesWhere, Elides, LetsGo, MayArm}
 use Rattle.el_model.specs.Deed.{Misses, Rests, RollsBack, Runs}
 use Rattle.el_model.specs.Deed.{Waits, hart_after}
 use Rattle.el_model.specs.Face.{met}
 use Rattle.el_model.specs.Next.{after, next, step_turn}
-use Rattle.el_model.specs.Order.{Alone, Behind, InFront, Place, place_for}
 use Rattle.el_model.specs.Plain.{candidate_of}
 use Rattle.el_model.specs.RollBack.{out_of_section}
 use Rattle.el_model.specs.Serve.{bystander, other_head, others_cache, served_hart}
-use Rattle.el_model.specs.State.{Armed, Hart, ModelState, Turn, armed_of, begin, cache_of, hart_of, head_of, is_live}
-use Rattle.el_model.specs.State.{new_hart, ordered_of}
-use Rattle.el_model.proofs.Laws.AllHarts.{all_first}
+use Rattle.el_model.specs.State.{Armed, Hart, ModelState, Turn, armed_of, begin, cache_of, hart_of, head_of}
+use Rattle.el_model.specs.State.{ordered_of}
 use Rattle.el_model.proofs.Laws.BusEvents.{by_event}
 use Rattle.el_model.proofs.Laws.Deeds.{step_deed}
 use Rattle.el_model.proofs.Laws.EachHart.{Each, each_become}
@@ -59,6 +54,8 @@ use Rattle.section_laws.proofs.Laws.ArmedBits.{same_word}
 use Rattle.section_laws.proofs.Laws.Coherence as coherence
 use Rattle.section_laws.proofs.Laws.FreeLines.{head_is, not_blocked}
 use Rattle.section_laws.proofs.Laws.Moves.{Moves, faced_keeps, moved, step_keeps, taken_keeps}
+use Rattle.section_laws.proofs.Laws.NewHarts.{each_new}
+use Rattle.section_laws.proofs.Laws.Placed.{StaysOrIsFaced, placed_first}
 use Rattle.section_laws.proofs.Laws.Waiting.{Rested, live_unarmed, none_freed, unarmed_ordered}
 
 -- a head lets no hart go
@@ -111,58 +108,18 @@ met_unfreed : (state : ModelState) (head : Request) → Each (Unfreed head) (met
 met_unfreed state head = faced_keeps (moves head) (let_go state head) head (gone_unfreed state head)
 
 -- a line's head after an event of the bus was met in it, or was the head before
-abbrev IsInPlace : ModelState → Request → Place → Type 0
-IsInPlace state request InFront = Unit {0}
-IsInPlace state request Behind = is_some (head_of state request.line) ≡ true
-IsInPlace state request Alone = Unit {0}
-
-in_place : (state : ModelState) (request : Request) → IsInPlace state request (place_for state request)
-in_place state request =
-    by_test (IsInPlace state request) (is_live state request.hart && has_bit (cache_of state request.hart) request.line)
-    InFront _ (λ own. tt)
-    (λ other. by_test (IsInPlace state request) (is_some (head_of state request.line)) Behind Alone
-    (λ there. there) (λ none. tt))
-
 abbrev WasOrIsMet : ModelState → Start → ℕ → Request → Type 0
 WasOrIsMet state start line head = (faced_head state start ≡ Some head) ⊎ (head_of state line ≡ Some head)
-
-other_first : (state : ModelState) (request : Request) (place : Place) (line : ℕ) → request.line ≢ line →
-    first_of (order_at state request place) line ≡ head_of state line
-other_first state request InFront line other = first_of_in_front_of_other state.order request line other
-other_first state request Behind line other = first_of_appended_other state.order request line other
-other_first state request Alone line other = first_of_appended_other state.order request line other
-
-own_first : (state : ModelState) (request : Request) (place : Place) (head : Request) → IsInPlace state request place →
-    first_of (order_at state request place) request.line ≡ Some head →
-    WasOrIsMet state (Places request place) request.line head
-own_first state request InFront head there is = inl (sym (first_of_in_front_of_own state.order request) ∙ is)
-own_first state request Behind head there is =
-    inr (first (head_of state request.line) there (sym (first_of_appended_own state.order request) ∙ is))
-  where
-    first : (former : Option Request) → is_some former ≡ true → option_or former (Some request) ≡ Some head →
-        former ≡ Some head
-    first None there is = absurd (cc)
-    first (Some former) there is = is
-own_first state request Alone head there is =
-    by (head_of state request.line) (sym (first_of_appended_own state.order request) ∙ is)
-  where
-    by : (former : Option Request) → option_or former (Some request) ≡ Some head →
-        (Some request ≡ Some head) ⊎ (former ≡ Some head)
-    by None found = inl found
-    by (Some former) found = inr found
 
 was_or_is_met : (state : ModelState) (by : ℕ) (start : Start) (line : ℕ) (head : Request) → IsOneEach state.order →
     StartsWhere state by start → first_of (order_after state start) line ≡ Some head → WasOrIsMet state start line head
 was_or_is_met state by Nothing line head once where_it is = inr is
-was_or_is_met state by (Places request place) line head once may is = by_line (cases_eq request.line line)
+was_or_is_met state by (Places request place) line head once may is =
+    either (placed_first state request place line may.place_is)
   where
-    by_line : (request.line ≡ line) ⊎ (request.line ≡ line → ⊥) → WasOrIsMet state (Places request place) line head
-    by_line (inl same) =
-        subst (λ l. WasOrIsMet state (Places request place) l head) same
-        (own_first state request place head
-        (subst (IsInPlace state request) (sym may.place_is) (in_place state request))
-        (ap (first_of (order_at state request place)) same ∙ is))
-    by_line (inr other) = inr (sym (other_first state request place line other) ∙ is)
+    either : StaysOrIsFaced state request place line → WasOrIsMet state (Places request place) line head
+    either (inl same) = inr (sym same ∙ is)
+    either (inr own) = inl (sym own ∙ is)
 was_or_is_met state by (Serves request) line head once may is = by_line (cases_eq request.line line)
   where
     own : ordered_of state request.hart ≡ Some request
@@ -490,17 +447,11 @@ first_gone : (program : Program) (config : Config) → AllLetGone (begin program
 unfolding begin
 first_gone program config line head found = none_some found
 
-first_reads : (program : Program) (config : Config) → Each (λ h hart. ReadsItsLine hart) (begin program config)
-unfolding begin
-first_reads program config h =
-    all_first ReadsItsLine program.harts (new_hart config.sets) (new_hart 0) (λ armed is. none_some is)
-    (λ armed is. none_some is) h
-
 pub first_guarded : (program : Program) (config : Config) → Guarded (begin program config)
 first_guarded program config = record {
   holds = coherence.first_holds program config;
   gone = first_gone program config;
-  reads = first_reads program config;
+  reads = each_new ReadsItsLine program config (λ sets armed is. none_some is);
 }
 
 pub always_guarded : (program : Program) (config : Config) (events : List Event) → Guarded (after program config events)

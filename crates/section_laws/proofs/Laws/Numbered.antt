@@ -1,8 +1,6 @@
 -- no hart has two requests in order, and each request is of a hart that a machine may have
-use Rattle.std.proofs.Common.{◌≡◌, ◌∙◌, ◌<◌, ◌≤◌, ◌==◌, ℕ, Bool, true, false, List, [], ◌∷◌, None, Some, length, refl}
-use Rattle.std.proofs.Common.{ap, sym, arith}
-use Rattle.std.specs.Prelude.{nat_lt}
-use Rattle.std.proofs.lemmas.Bool.{ltb-true, ltb-false}
+use Rattle.std.proofs.Common.{◌≡◌, ◌∙◌, ◌<◌, ◌≤◌, ◌==◌, ℕ, List, [], ◌∷◌, None, Some, length}
+use Rattle.std.proofs.Common.{ap, arith}
 use Rattle.std.proofs.Math.ListN.{length-set}
 use Rattle.std.proofs.lemmas.List.{length-replicate}
 use Rattle.bus_order.specs.Order.{IsOneEach, Request, appended, in_front_of, removed, request_of}
@@ -11,7 +9,7 @@ use Rattle.el_base.specs.Config.{IsInRange}
 use Rattle.el_base.specs.declared.config.Config.{Config}
 use Rattle.el_base.proofs.Laws.Ranges.{harts_in_range}
 use Rattle.el_base.specs.declared.events.Event.{Event}
-use Rattle.el_base.proofs.Laws.Cases.{some_none}
+use Rattle.el_base.proofs.Laws.Cases.{none_some}
 use Rattle.elf_image.specs.Program.{Program}
 use Rattle.el_model.specs.BusEvent.{Nothing, Places, Serves, Start, StartsWhere, Takes, order_after, order_at}
 use Rattle.el_model.specs.Losses.{AreNumbered, HartsAreNumbered}
@@ -21,9 +19,9 @@ use Rattle.el_model.specs.State.{ModelState, begin, new_hart, raised_of}
 use Rattle.el_model.proofs.Laws.BusEvents.{by_event}
 use Rattle.el_model.proofs.Laws.Deeds.{step_deed}
 use Rattle.el_model.proofs.Laws.FromStart.{kept_after}
-use Rattle.el_model.proofs.Laws.Harts.{hart_of-past}
 use Rattle.el_model.proofs.Laws.Tests.{by_test}
 use Rattle.el_model.proofs.Laws.Restoring.{removed_numbered}
+use Rattle.section_laws.proofs.Laws.NewHarts.{exists_unless_new}
 use Rattle.section_laws.specs.Laws.{EachHartWaitsForOne, OneOrderedRequestEach, RequestsAreNumbered}
 use Rattle.section_laws.proofs.Laws.Waiting.{Rested, Sound, always_settled, always_sound, free_of_order, next_settled}
 use Rattle.section_laws.proofs.Laws.Waiting.{rested_in, settled_by}
@@ -45,16 +43,11 @@ pub record KeptInOrder (P : List Request → Type 0) (count : ℕ) : Type 0 wher
   pub taken_out : (order : List Request) (h : ℕ) → P order → P (removed order h)
 
 -- a hart with a raised request is one of the machine's
-raised_below : (state : ModelState) (h : ℕ) (request : Request) → raised_of state h ≡ Some request → (below : Bool) →
-    nat_lt h (length state.harts) ≡ below → h < length state.harts
-raised_below state h request raised true below = ltb-true h (length state.harts) below
-raised_below state h request raised false below =
-    some_none (sym raised ∙ ap (λ hart. hart.raised) (hart_of-past state h (ltb-false h (length state.harts) below)))
-
 pub raised_exists : (state : ModelState) (h : ℕ) (request : Request) → Sound state → raised_of state h ≡ Some request →
     request.hart < length state.harts
 raised_exists state h request sound raised =
-    rw ((sound h).own request raised) (raised_below state h request raised (nat_lt h (length state.harts)) refl)
+    rw ((sound h).own request raised)
+    (exists_unless_new (λ hart. hart.raised ≡ Some request) state h (λ is. none_some is) raised)
 
 module _ {P : List Request → Type 0} where
   place_keeps : (state : ModelState) (request : Request) (place : Place) → KeptInOrder P (length state.harts) →

@@ -2,8 +2,8 @@
 use Rattle.std.proofs.Common.{◌≡◌, ◌≢◌, ◌∙◌, ◌≤◌, ◌<◌, ℕ, Bool, true, false, ◌&&◌, not, List, [], ◌∷◌, Option, None}
 use Rattle.std.proofs.Common.{Some, is_some, length, refl, ap}
 use Rattle.std.proofs.Common.{sym, subst, inl, inr, ◌⊎◌}
-use Rattle.std.specs.Prelude.{nat_le, nat_lt}
-use Rattle.std.proofs.lemmas.Bool.{cases_eq, ltb-true, ltb-false}
+use Rattle.std.specs.Prelude.{nat_le}
+use Rattle.std.proofs.lemmas.Bool.{cases_eq}
 use Rattle.bus_order.specs.Order.{Request}
 use Rattle.el_base.specs.declared.config.Mode.{Mode}
 use Rattle.el_base.specs.declared.events.Event.{Event}
@@ -11,6 +11,7 @@ use Rattle.el_base.specs.declared.events.Kind.{Kind}
 use Rattle.el_base.specs.declared.events.Kind.TheVariants as kinds
 use Rattle.el_base.specs.declared.outcomes.Cause.{Cause}
 use Rattle.el_base.specs.declared.outcomes.Outcome.TheVariants as outcomes
+use Rattle.el_base.proofs.Laws.Cases.{clash, some_none}
 use Rattle.el_model.specs.BusEvent.{IsOfBus}
 use Rattle.el_model.specs.Deed.{Arms, Begins, Buffers, Commits, Continues, Deed, DoesWhere, Elides, LetsGo, Misses}
 use Rattle.el_model.specs.Deed.{Rests, RollsBack, Runs, Waits}
@@ -28,6 +29,7 @@ use Rattle.section_laws.specs.Sections.{IsOfSection, NeverRunsCandidate, NoneBeg
 use Rattle.section_laws.specs.Sections.{SectionStepsAreOfFiveKinds}
 use Rattle.el_model.proofs.Laws.EachHart.{each_but}
 use Rattle.section_laws.proofs.Laws.EachKept.{BusKept, turn_keeps}
+use Rattle.section_laws.proofs.Laws.NewHarts.{live_below}
 use Rattle.section_laws.proofs.Laws.Waiting.{Sound, always_sound}
 
 not_live : {X : Type 0} (section : Option Section) → is_some section ≡ true → section ≡ None → X
@@ -113,9 +115,6 @@ untrusted mode hart pc was trusted =
 
 not_armed : {A X : Type 0} {x : A} {armed : Option A} → armed ≡ Some x → armed ≡ None → X
 not_armed is none = some_none (sym is ∙ none)
-  where
-    some_none : {A X : Type 0} {x : A} → Some x ≡ None → X
-    some_none wrong = absurd (cc)
 
 deed_flagged : (state : ModelState) (h : ℕ) (deed : Deed) → DoesWhere state h deed →
     (outcome_of deed ≡ outcomes.Ran → is_some (candidate_of state h) ≡ true → ⊥) →
@@ -136,10 +135,7 @@ deed_flagged state h (Continues armed) continues none was = not_armed continues.
 deed_flagged state h (LetsGo armed) lets_go none was = not_armed lets_go.is_armed.armed_is was.unarmed
 
 no_flag : {X : Type 0} (state : ModelState) (h : ℕ) → length state.harts ≤ h → IsBarred (hart_of state h) → X
-no_flag state h past was = absurd (never (sym (ap (λ hart. hart.fallback) (hart_of-past state h past)) ∙ was.flag))
-  where
-    never : false ≡ true → ⊥
-    never wrong = absurd (cc)
+no_flag state h past was = clash (ap (λ hart. hart.fallback) (hart_of-past state h past)) was.flag
 
 step_flagged : (state : ModelState) (h g : ℕ) →
     (g ≡ h → (step_turn state h).outcome ≡ outcomes.Ran → is_some (candidate_of state h) ≡ true → ⊥) →
@@ -213,16 +209,9 @@ unflagged state event was =
     (λ turn done began. subst IsOfBus began done.of_bus)
 
 -- a rollback by the hart itself sets the flag
-exists_by : (state : ModelState) (h : ℕ) (section : Section) → section_of state h ≡ Some section → (below : Bool) →
-    nat_lt h (length state.harts) ≡ below → h < length state.harts
-exists_by state h section live true below = ltb-true h (length state.harts) below
-exists_by state h section live false below =
-    not_live (section_of state h) (ap is_some live)
-    (ap (λ hart. hart.section) (hart_of-past state h (ltb-false h (length state.harts) below)))
-
 pub live_exists : (state : ModelState) (h : ℕ) (section : Section) → section_of state h ≡ Some section →
     h < length state.harts
-live_exists state h section live = exists_by state h section live (nat_lt h (length state.harts)) refl
+live_exists state h section live = live_below state h (ap is_some live)
 
 deed_sets_flag : (state : ModelState) (h : ℕ) (deed : Deed) (cause : Cause) → DoesWhere state h deed →
     outcome_of deed ≡ outcomes.RolledBack cause → IsBarred (hart_of (done state h deed).state h)

@@ -1,5 +1,5 @@
 -- each hart waits for one thing at most, and for none where it has stopped or is armed
-use Rattle.std.proofs.Common.{◌≡◌, ◌≢◌, ◌∙◌, ℕ, ◌≤◌, ◌+◌, Bool, true, false, ◌||◌, List, Option, None, Some, is_some}
+use Rattle.std.proofs.Common.{◌≡◌, ◌≢◌, ◌∙◌, ℕ, ◌≤◌, ◌+◌, Bool, true, false, List, Option, None, Some, is_some}
 use Rattle.std.proofs.Common.{length, refl, ap, sym, subst}
 use Rattle.std.proofs.Common.{inl, inr, ◌⊎◌}
 use Rattle.std.proofs.lemmas.Bool.{cases_eq}
@@ -13,6 +13,7 @@ use Rattle.el_base.specs.declared.config.Config.{Config}
 use Rattle.el_base.specs.declared.outcomes.Need.{Need}
 use Rattle.el_base.specs.declared.events.Event.{Event}
 use Rattle.el_base.proofs.Laws.Cases.{some_none}
+use Rattle.el_base.proofs.Laws.Options.{none_from_both}
 use Rattle.elf_image.specs.Program.{Program}
 use Rattle.el_model.specs.Armed.{freed_hart, is_freed, let_go, let_go_hart}
 use Rattle.el_model.specs.BusEvent.{IsBusEvent, Nothing, Places, Serves, Start, StartsWhere, Takes, as_met, faced_head}
@@ -30,7 +31,6 @@ use Rattle.el_model.specs.State.{Armed, Hart, ModelState, Section, Turn, armed_o
 use Rattle.el_model.specs.State.{hart_of, new_hart, ordered_of}
 use Rattle.el_model.specs.State.{raised_of, section_of}
 use Rattle.el_model.specs.Upcoming.{Swap}
-use Rattle.el_model.proofs.Laws.AllHarts.{all_first}
 use Rattle.el_model.proofs.Laws.BusEvents.{by_event, keeps_as_met, met_becomes}
 use Rattle.el_model.proofs.Laws.Deeds.{is_rolled, step_deed}
 use Rattle.el_model.proofs.Laws.EachHart.{Each, each_become, each_but}
@@ -44,6 +44,7 @@ use Rattle.rv_alu.specs.declared.view.HartStatus.TheVariants.{Running}
 use Rattle.rv_flat.specs.FlatState.{status_of, view_of}
 use Rattle.section_laws.specs.Waiting.{HasNothing, OnlyHolds, RunsWithNothing, WaitsForOne}
 use Rattle.section_laws.proofs.Laws.Moves.{Moves, faced_keeps, freed_is_armed, moved, taken_keeps}
+use Rattle.section_laws.proofs.Laws.NewHarts.{each_new}
 use Rattle.section_laws.proofs.Laws.Statuses.{alone_status, flat_status, let_go_status}
 
 -- of each hart, with these statuses and these requests in order
@@ -410,19 +411,9 @@ pub record HasNoRequest (state : ModelState) (h : ℕ) : Type 0 where
   pub not_ordered : ordered_of state h ≡ None
 
 pub no_request : (state : ModelState) (h : ℕ) → has_request state h ≡ false → HasNoRequest state h
-no_request state h free = record {
-  not_raised = first (raised_of state h) (ordered_of state h) free;
-  not_ordered = second (raised_of state h) (ordered_of state h) free;
-}
-  where
-    first : (a b : Option Request) → (is_some a || is_some b) ≡ false → a ≡ None
-    first None b none = refl
-    first (Some a) b none = absurd (cc)
-
-    second : (a b : Option Request) → (is_some a || is_some b) ≡ false → b ≡ None
-    second None None none = refl
-    second None (Some b) none = absurd (cc)
-    second (Some a) b none = absurd (cc)
+no_request state h free =
+    let none = none_from_both (raised_of state h) (ordered_of state h) free in
+    record { not_raised = none.0; not_ordered = none.1 }
 
 committed_status : (state : ModelState) (h g : ℕ) (deed : Deed) → g ≢ h →
     status_of (committed_after state h deed) g ≡ status_of state.committed g
@@ -626,9 +617,8 @@ first_settled : (program : Program) (config : Config) → Settled (begin program
 unfolding begin
 first_settled program config h =
     let fresh =
-    all_first IsFresh program.harts (new_hart config.sets) (new_hart 0)
-    (record { no_section = refl; unarmed = refl; not_raised = refl; not_held = refl })
-    (record { no_section = refl; unarmed = refl; not_raised = refl; not_held = refl }) h in (
+    each_new IsFresh program config
+    (λ sets. record { no_section = refl; unarmed = refl; not_raised = refl; not_held = refl }) h in (
       nothing h _ None _ _ _
           (record {
             no_section = fresh.no_section;

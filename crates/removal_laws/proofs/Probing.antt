@@ -145,14 +145,6 @@ first_or_later first others message = by (same_message first message) refl
     by true same is = inl (same_is_one first message same)
     by false apart is = inr is
 
-pub later_there : (first : Message) (others : List Message) (message : Message) → has_message others message ≡ true →
-    has_message (first ∷ others) message ≡ true
-later_there first others message is = by (same_message first message)
-  where
-    by : (same : Bool) → (if same then true else has_message others message) ≡ true
-    by true = refl
-    by false = is
-
 -- what holds still holds, where what is owed for each new entry is there
 pub record Debts (Up Told : ℕ → ℕ → Type 0) (state final : ModelState) : Type 0 where
   pub order : final.order ≡ state.order

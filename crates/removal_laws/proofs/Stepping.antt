@@ -26,6 +26,7 @@ use Rattle.el_model.specs.Plain.{after_candidate, candidate_of}
 use Rattle.el_model.specs.State.{Armed, Hart, ModelState, Section, has_request, hart_of, head_of, ordered_of, raised_of}
 use Rattle.el_model.specs.Upcoming.{Swap, Touch}
 use Rattle.el_model.proofs.Laws.Deeds.{step_deed}
+use Rattle.el_model.proofs.Laws.HartParts.{candidate_section}
 use Rattle.el_model.proofs.Laws.Harts.{hart_of-past, with_hart_kept}
 use Rattle.mail.specs.Mailbox.{Marker, Message, Probe, has_message}
 use Rattle.removal_laws.specs.Facts.{Everywhere}
@@ -302,11 +303,6 @@ missed_write : (cache : List (List Way)) (line : ℕ) (need : Need) → is_cover
 missed_write cache line Write uncovered bit = refl
 missed_write cache line Read uncovered bit = clash uncovered bit
 
-candidate_section : (pc : Option ℕ) (had_watch : Bool) (candidate : Option Swap) (hart : Hart) → hart.section ≡ None →
-    (after_candidate pc had_watch candidate hart).section ≡ None
-candidate_section pc had_watch None hart none = none
-candidate_section pc had_watch (Some swap) hart none = none
-
 missed_aside : (head : Option Request) (g : ℕ) (hart : Hart) (raised : Option Request) →
     conflicts_with head g (record hart { held_line = None; raised = raised }) ≡ true →
     conflicts_with head g hart ≡ true
@@ -369,7 +365,7 @@ deed_stepped state h (Misses line need) (inr misses) grounds standing =
       ordered = λ request is live bit. some_none (sym is ∙ none.not_ordered);
     }
 deed_stepped state h (Runs touch) does grounds standing =
-    outside_stepped state h _ (candidate_section _ _ (candidate_of state h) _ does.outside.no_section)
+    outside_stepped state h _ (candidate_section _ _ (candidate_of state h) _ ∙ does.outside.no_section)
 deed_stepped state h (Begins swap) does grounds standing =
     let old = hart_of state h in
     let line = line_number swap.word in

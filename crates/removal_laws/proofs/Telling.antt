@@ -30,7 +30,8 @@ use Rattle.section_laws.proofs.Laws.Bits.{fewer_ended, fewer_same, meets}
 use Rattle.removal_laws.proofs.Laws.Delivering.{Entry, NoEntry, marker_stands, more_has, new_or_had, own_line}
 use Rattle.removal_laws.proofs.Grounds.{Grounds, Standing}
 use Rattle.removal_laws.proofs.Kept.{OwedOf, retained_before}
-use Rattle.removal_laws.proofs.Probing.{Took, debts_stand, first_or_later, later_there, probed, took_nothing}
+use Rattle.removal_laws.proofs.Probing.{Took, debts_stand, first_or_later, probed, took_nothing}
+use Rattle.section_laws.proofs.Laws.Mailboxes.{later_there}
 use Rattle.el_model.proofs.Laws.EachHart.{Each, each_after, each_but}
 use Rattle.el_model.proofs.Laws.Orders.{head_line}
 use Rattle.el_model.proofs.Laws.BusEvents.{with_mail}

@@ -5,7 +5,7 @@ use Rattle.el_base.specs.declared.config.Config.{Config}
 use Rattle.el_base.specs.declared.config.Mode.{Mode}
 use Rattle.el_base.specs.declared.config.Mode.TheVariants.{Plain, Sle, Tlr}
 use Rattle.el_base.specs.declared.events.Event.{Event}
-use Rattle.el_base.proofs.Laws.Cases.{false_true, none_some}
+use Rattle.el_base.proofs.Laws.Cases.{clash, false_true, none_some}
 use Rattle.elf_image.specs.Program.{Program}
 use Rattle.el_model.specs.Attempts.{opened}
 use Rattle.el_model.specs.Deed.{Arms, Begins, Buffers, Commits, Continues, Deed, DoesWhere, Elides, LetsGo, Misses}
@@ -13,13 +13,13 @@ use Rattle.el_model.specs.Deed.{Rests, RollsBack, Runs, Waits, hart_after}
 use Rattle.el_model.specs.Next.{after, next}
 use Rattle.el_model.specs.Plain.{after_candidate, candidate_of}
 use Rattle.el_model.specs.Serve.{with_claim}
-use Rattle.el_model.specs.State.{Hart, ModelState, Section, begin, hart_of, new_hart}
+use Rattle.el_model.specs.State.{Hart, ModelState, Section, begin, hart_of}
 use Rattle.el_model.specs.Upcoming.{Swap}
-use Rattle.el_model.proofs.Laws.AllHarts.{all_first}
-use Rattle.el_model.proofs.Laws.FromStart.{kept_after, next_config}
+use Rattle.el_model.proofs.Laws.FromStart.{begin_config, first_outside, kept_after, next_config}
 use Rattle.removal_laws.specs.Laws.{AttemptsAreCurrent, StampsAreDistinct}
 use Rattle.el_model.proofs.Laws.EachHart.{Each}
 use Rattle.section_laws.proofs.Laws.EachKept.{BusKept, event_keeps}
+use Rattle.section_laws.proofs.Laws.NewHarts.{each_new}
 use Rattle.stamp.specs.Stamps.{Stamp}
 
 -- an attempt of this hart with this clock
@@ -104,19 +104,9 @@ next_own state event own =
     event_keeps own_bus state event
     (λ deed does. own_deed state event.hart.number deed (hart_of state event.hart.number) (own event.hart.number)) own
 
-record IsFresh (hart : Hart) : Type 0 where
-  no_section : hart.section ≡ None
-  no_attempt : hart.attempt ≡ None
-
-fresh : (program : Program) (config : Config) (h : ℕ) → IsFresh (hart_of (begin program config) h)
-unfolding begin
-fresh program config h =
-    all_first IsFresh program.harts (new_hart config.sets) (new_hart 0)
-    (record { no_section = refl; no_attempt = refl })
-    (record { no_section = refl; no_attempt = refl }) h
-
 pub first_own : (program : Program) (config : Config) → Each Own (begin program config)
-first_own program config h stamp is = none_some (sym (fresh program config h).no_attempt ∙ is)
+first_own program config h stamp is =
+    none_some (sym (each_new (λ hart. hart.attempt ≡ None) program config (λ sets. refl) h) ∙ is)
 
 pub always_own : (program : Program) (config : Config) (events : List Event) → Each Own (after program config events)
 always_own program config events =
@@ -178,15 +168,11 @@ next_open state event now = record {
       event_keeps open_bus state event (λ deed does. open_deed state event.hart.number deed does now) now.open_each;
 }
 
-begin_mode : (program : Program) (config : Config) → config.mode ≡ Tlr → (begin program config).config.mode ≡ Tlr
-unfolding begin
-begin_mode program config mode = mode
-
 pub always_open : (program : Program) (config : Config) (events : List Event) → config.mode ≡ Tlr →
     AllOpen (after program config events)
 always_open program config events mode =
     kept_after AllOpen next_open (begin program config) events
     (record {
-      mode = begin_mode program config mode;
-      open_each = λ h live. false_true (sym (ap is_some (fresh program config h).no_section) ∙ live);
+      mode = ap (λ c. c.mode) (begin_config program config) ∙ mode;
+      open_each = λ h live. clash (first_outside program config h) live;
     })

@@ -8,7 +8,7 @@ use Rattle.el_base.specs.declared.config.Mode.TheVariants.{Plain, Sle, Tlr}
 use Rattle.el_base.specs.declared.events.Event.{Event}
 use Rattle.el_base.specs.declared.outcomes.Outcome.{Outcome}
 use Rattle.el_base.specs.declared.outcomes.Outcome.TheVariants as outcomes
-use Rattle.el_base.proofs.Laws.Tests.{number_of_test, own_test}
+use Rattle.el_base.proofs.Laws.Tests.{first_of_both, number_of_test, own_test}
 use Rattle.el_model.specs.Attempts.{closed_clock, opened}
 use Rattle.el_model.specs.BusEvent.{IsOfBus}
 use Rattle.el_model.specs.Deed.{Arms, Begins, Buffers, Commits, Continues, Deed, DoesWhere, Elides, LetsGo, Misses}
@@ -21,7 +21,6 @@ use Rattle.el_model.specs.State.{Hart, ModelState, hart_of, new_hart, section_of
 use Rattle.el_model.proofs.Laws.BusEvents.{by_event}
 use Rattle.el_model.proofs.Laws.Deeds.{is_rolled, step_deed}
 use Rattle.el_model.proofs.Laws.FromStart.{kept_after}
-use Rattle.el_model.proofs.Laws.Harts.{hart_of-past}
 use Rattle.removal_laws.specs.Laws.{IsLater, LaterAttemptsAreLater, StampsAreKept, attempt_of, closes}
 use Rattle.removal_laws.proofs.Laws.Attempts.{AllOpen, Own, always_open, always_own, attempts_kept, candidate_keeps}
 use Rattle.removal_laws.proofs.Laws.Attempts.{next_open, next_own}
@@ -29,6 +28,7 @@ use Rattle.section_laws.proofs.Laws.Bits.{no_less}
 use Rattle.section_laws.specs.Sections.{is_committed, is_rolled_back}
 use Rattle.el_model.proofs.Laws.EachHart.{Each, each_but, each_with}
 use Rattle.section_laws.proofs.Laws.EachKept.{BusKept, event_keeps, turn_keeps}
+use Rattle.section_laws.proofs.Laws.NewHarts.{live_below}
 use Rattle.stamp.specs.Stamps.{Stamp, next_clock_of}
 
 -- whether this outcome closes the attempt of its hart
@@ -223,9 +223,7 @@ deed_closes state h (RollsBack section cause) does now =
 
 live_exists : {X : Type 0} (state : ModelState) (h : ℕ) → length state.harts ≤ h →
     is_some (section_of state h) ≡ true → X
-live_exists state h past live =
-    let e : false ≡ true = sym (ap (λ hart. is_some hart.section) (hart_of-past state h past)) ∙ live in
-    absurd (cc)
+live_exists state h past live = let below = live_below state h live in absurd (omega (arith, below, past))
 
 done_closes : (state : ModelState) (h : ℕ) (deed : Deed) → DoesWhere state h deed → AllOpen state →
     Each (Closing state (λ g. (h == g) && closes_it (outcome_of deed))) (done state h deed).state
@@ -233,13 +231,9 @@ done_closes state h deed does now =
     each_but (Closing state (λ g. (h == g) && closes_it (outcome_of deed))) state h
     (hart_after state h deed (hart_of state h))
     (deed_closes state h deed does now)
-    (λ g apart closing. absurd (apart (sym (number_of_test h g (first (h == g) _ closing)))))
+    (λ g apart closing. absurd (apart (sym (number_of_test h g (first_of_both (h == g) _ closing)))))
     (λ past closing. past_closes state h deed does past closing)
   where
-    first : (a b : Bool) → (a && b) ≡ true → a ≡ true
-    first true b is = refl
-    first false b is = absurd (cc)
-
     past_closes : (state : ModelState) (h : ℕ) (deed : Deed) → DoesWhere state h deed → length state.harts ≤ h →
         ((h == h) && closes_it (outcome_of deed)) ≡ true → Closed (hart_of state h) (new_hart 0)
     past_closes state h Rests does past closing = never (h == h) closing

@@ -19,7 +19,8 @@ use Rattle.section_laws.proofs.Laws.Bits.{fewer_same}
 use Rattle.removal_laws.proofs.Laws.Facing.{has_number, passed, passes}
 use Rattle.removal_laws.proofs.Grounds.{Grounds, Standing}
 use Rattle.removal_laws.proofs.Kept.{Owed}
-use Rattle.removal_laws.proofs.Probing.{Took, all_known, all_probed, debts_stand, first_or_later, later_there}
+use Rattle.removal_laws.proofs.Probing.{Took, all_known, all_probed, debts_stand, first_or_later}
+use Rattle.section_laws.proofs.Laws.Mailboxes.{later_there}
 use Rattle.removal_laws.proofs.Probing.{took_nothing}
 use Rattle.el_model.proofs.Laws.EachHart.{Each, each_but, each_with}
 use Rattle.el_base.proofs.Laws.Tests.{first_of_both, number_of_test, other_test, own_test, second_of_both}

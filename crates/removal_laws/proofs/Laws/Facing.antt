@@ -8,7 +8,7 @@ use Rattle.std.proofs.lemmas.Option.{same_Some}
 use Rattle.bus_order.specs.Order.{Request}
 use Rattle.defer_list.specs.HartSet.{has}
 use Rattle.el_base.specs.declared.config.Mode.TheVariants.{Tlr}
-use Rattle.el_base.proofs.Laws.Cases.{clash, some_none}
+use Rattle.el_base.proofs.Laws.Cases.{clash, false_true, some_none}
 use Rattle.el_base.proofs.Laws.Tests.{number_of_test, own_test}
 use Rattle.el_model.specs.Attempts.{see, seen_after}
 use Rattle.el_model.specs.Conflicts.{conflicts, conflicts_with, earlier, least_such, retains, stamp_in, told_winner}
@@ -19,10 +19,11 @@ use Rattle.el_model.specs.Face.{stays, told_fate, winning_stamp}
 use Rattle.el_model.specs.RollBack.{beaten, out_of_section}
 use Rattle.el_model.specs.State.{Hart, ModelState, count_up, for_line, hart_of, head_of, numbers_of, ordered_of}
 use Rattle.el_model.specs.State.{ordered_on, post_all}
-use Rattle.el_model.proofs.Laws.Harts.{hart_of-each_hart, hart_of-each_hart_past, hart_of-past}
+use Rattle.el_model.proofs.Laws.Harts.{hart_of-each_hart, hart_of-each_hart_past}
 use Rattle.el_model.proofs.Laws.Tests.{by_test}
 use Rattle.removal_laws.specs.Facts.{IsLinked, IsWaiting, MayPrecede, MayRetain}
 use Rattle.section_laws.proofs.Laws.Bits.{meets}
+use Rattle.section_laws.proofs.Laws.NewHarts.{live_below}
 use Rattle.removal_laws.proofs.Posting.{Posted, all_linked, all_marked, losing, posted_twice, seeing, unchanged}
 use Rattle.el_model.proofs.Laws.EachHart.{Each, each_after}
 use Rattle.stamp.specs.Stamps.{Stamp, is_before}
@@ -159,15 +160,6 @@ fate_is state head g hart mode =
     (told_is state head g hart meets_it (subst (λ m. wins_over m head.stamp hart ≡ false) mode not_won) _ refl)))
     (λ apart. apart)
 
--- a live section is one of the machine's harts
-pub live_below : (state : ModelState) (g : ℕ) → is_some (hart_of state g).section ≡ true → g < length state.harts
-live_below state g live = by (nat_lt g (length state.harts)) refl
-  where
-    by : (below : Bool) → nat_lt g (length state.harts) ≡ below → g < length state.harts
-    by true below = ltb-true g (length state.harts) below
-    by false past =
-        clash (ap (λ hart. is_some hart.section) (hart_of-past state g (ltb-false g (length state.harts) past))) live
-
 -- what becomes of each hart
 fate_posts : (state : ModelState) (head : Request) (g : ℕ) (hart : Hart) (fate : Fate) → state.config.mode ≡ Tlr →
     Posted state g hart (after_fate state head fate hart)
@@ -236,10 +228,7 @@ after_fate_retains state head g (LosesTo winner) mode says is =
     let it =
     meets head g (see stamp (out_of_section (hart_of state g)))
     (subst (λ m. conflicts head g (beaten m stamp (hart_of state g)) ≡ true) mode is) in
-    ended it.live
-  where
-    ended : {X : Type 0} → false ≡ true → X
-    ended wrong = absurd (cc)
+    false_true it.live
 
 pub faced_retains : (state : ModelState) (head : Request) (g : ℕ) → state.config.mode ≡ Tlr →
     conflicts head g (hart_of (faced state head) g) ≡ true → Retains state head g (hart_of (faced state head) g)

@@ -11,8 +11,7 @@ use Rattle.elf_image.specs.Program.{Program}
 use Rattle.el_model.specs.Next.{after, kind_turn, next}
 use Rattle.el_model.specs.Order.{order_turn}
 use Rattle.el_model.specs.Serve.{serve_turn}
-use Rattle.el_model.specs.State.{Hart, ModelState, begin, hart_of, new_hart, ordered_of, raised_of}
-use Rattle.el_model.proofs.Laws.AllHarts.{all_first}
+use Rattle.el_model.specs.State.{Hart, ModelState, begin, hart_of, ordered_of, raised_of}
 use Rattle.el_model.proofs.Laws.FromStart.{kept_after}
 use Rattle.mail.specs.Mailbox.{Marker, Probe, has_message}
 use Rattle.removal_laws.specs.Facts.{IsLinked, Knows}
@@ -25,6 +24,7 @@ use Rattle.removal_laws.proofs.Stepping.{step_stands}
 use Rattle.removal_laws.proofs.Telling.{delivered_stands}
 use Rattle.section_laws.proofs.Laws.ArmedBits as bits
 use Rattle.section_laws.proofs.Laws.EachKept.{first_each}
+use Rattle.section_laws.proofs.Laws.NewHarts.{each_new}
 use Rattle.section_laws.proofs.Laws.Numbered.{first_once}
 
 kind_stands : (state : ModelState) (h : ℕ) (kind : Kind) → Grounds state → Standing state →
@@ -55,11 +55,8 @@ record IsFresh (hart : Hart) : Type 0 where
   raised : hart.raised ≡ None
 
 fresh : (program : Program) (config : Config) (h : ℕ) → IsFresh (hart_of (begin program config) h)
-unfolding begin
-fresh program config h =
-    all_first IsFresh program.harts (new_hart config.sets) (new_hart 0)
-    (record { mail = refl; told = refl; upstream = refl; raised = refl })
-    (record { mail = refl; told = refl; upstream = refl; raised = refl }) h
+fresh program config =
+    each_new IsFresh program config (λ sets. record { mail = refl; told = refl; upstream = refl; raised = refl })
 
 unlinked : {X : Type 0} (hart : Hart) (before : ℕ) → IsFresh hart → IsLinked hart before → X
 unlinked hart before fresh (inl sent) =

@@ -14,6 +14,7 @@ use Rattle.residency.proofs.Laws.CacheLemmas.{way_of-lettered_same}
 use Rattle.residency.proofs.Laws.CacheLemmas.{way_of-marked_other, way_of-marked_same, way_of-touched}
 use Rattle.residency.proofs.Laws.CacheLemmas.{way_of-without_line_other}
 use Rattle.residency.proofs.Laws.ResidencyLemmas.{evicted_in-victim, victim_in-unmarked}
+use Rattle.el_base.proofs.Laws.Cases.{some_none}
 use Rattle.el_base.specs.declared.outcomes.Need.{Need}
 use Rattle.el_base.specs.declared.outcomes.Need.TheVariants.{Read, Write}
 use Rattle.el_base.proofs.Laws.Tests.{other_test, own_test}
@@ -98,9 +99,6 @@ found_victim [] gone once is = absurd (cc)
 found_victim (way ∷ ways) gone (absent, once) is =
     by (victim_in ways) refl (λ found. found_victim ways gone once found) is
   where
-    some_none : {A X : Type 0} {x : A} → Some x ≡ None → X
-    some_none wrong = absurd (cc)
-
     own : (bare : Option Way) (marks : Bool) → (if marks then None else Some way) ≡ Some gone → way ≡ gone
     own bare true is = absurd (cc)
     own bare false is = cc

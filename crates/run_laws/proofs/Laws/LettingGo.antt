@@ -10,7 +10,7 @@ use Rattle.el_base.proofs.Laws.FreedOrder.{order_below-more}
 use Rattle.el_base.proofs.Laws.MadeLosers.{count_in-beyond, none_in_no_one}
 use Rattle.el_base.specs.Freed.{count_in, order_below, order_of}
 use Rattle.el_base.specs.declared.freed.Freed.{Freed}
-use Rattle.el_base.proofs.Laws.Cases.{clash}
+use Rattle.el_base.proofs.Laws.Cases.{clash, none_some}
 use Rattle.el_model.specs.Armed.{freed_by, freed_count, freed_hart, is_freed, let_go, let_go_hart}
 use Rattle.el_model.specs.BusEvent.{Becomes, Frees, IsBusEvent, Start, as_met, faced_head, freed_in}
 use Rattle.el_model.specs.Face.{freed_if, met}
@@ -181,9 +181,6 @@ same_armed old = record {
   served = λ h state request hart now armed is. now armed (sym (claim_armed (is_some hart.section) request _) ∙ is);
   bystander = λ h state request hart now. now;
 }
-  where
-    none_some : {A X : Type 0} {x : A} → None ≡ Some x → X
-    none_some wrong = absurd (cc)
 
 pub was_armed : (state : ModelState) (by : ℕ) (start : Start) (h : ℕ) {lost : Option ℕ} {hart : Hart} →
     Becomes state by start h lost hart → (armed : Armed) → hart.armed ≡ Some armed → armed_of state h ≡ Some armed

@@ -1,24 +1,23 @@
 -- in every state that can be reached live and armed sections run covered, and other harts change nothing that they show
-use Rattle.std.proofs.Common.{◌≡◌, ◌≢◌, ◌∙◌, ◌+◌, ◌⊎◌, ℕ, true, List, None, Some, is_some, replicate, refl, ap, sym}
+use Rattle.std.proofs.Common.{◌≡◌, ◌≢◌, ◌∙◌, ◌+◌, ◌⊎◌, ℕ, true, List, None, is_some, replicate, refl, ap, sym}
 use Rattle.std.proofs.Common.{subst, inl, inr}
 use Rattle.el_base.specs.Freed.{count_in, order_of}
 use Rattle.el_base.specs.declared.config.Config.{Config}
 use Rattle.el_base.specs.declared.events.Event.{Event}
 use Rattle.el_base.specs.declared.events.Kind.{Kind}
-use Rattle.el_base.proofs.Laws.Cases.{not_both}
+use Rattle.el_base.proofs.Laws.Cases.{none_some, not_both}
 use Rattle.elf_image.specs.Program.{Program}
 use Rattle.el_model.specs.BusEvent.{IsBusEvent, freed_in}
 use Rattle.el_model.specs.Deed.{Arms, Begins, Buffers, Commits, Continues, Deed, Elides, LetsGo, Misses, Rests}
 use Rattle.el_model.specs.Deed.{RollsBack, Runs, Waits, committed_after}
 use Rattle.el_model.specs.Next.{after, kind_turn, next}
-use Rattle.el_model.specs.State.{ModelState, Turn, armed_of, begin, cache_of, new_hart, section_of}
-use Rattle.el_model.proofs.Laws.AllHarts.{all_first}
+use Rattle.el_model.specs.State.{ModelState, Turn, armed_of, begin, cache_of}
+use Rattle.section_laws.proofs.Laws.NewHarts.{each_new}
 use Rattle.el_model.proofs.Laws.BusEvents.{by_kind}
 use Rattle.el_model.proofs.Laws.Deeds.{step_deed}
 use Rattle.rv_flat.proofs.Laws.RunsAfter.{keeps_bytes, run_bytes}
 use Rattle.rv_flat.specs.FlatState.{start}
 use Rattle.rv_flat.specs.Memory.{AreBytes}
-use Rattle.rv_flat.specs.Step.{flat}
 use Rattle.section_laws.proofs.Laws.Coherence.{copies_are_coherent, written_lines_are_elsewhere_in_no_cache}
 use Rattle.section_laws.proofs.Laws.LetGone.{always_guarded, next_guarded}
 use Rattle.section_laws.proofs.Laws.Numbered.{one_ordered_request_each}
@@ -88,16 +87,6 @@ next_holds program config events event now =
           (next_guarded state event guarded).reads;
     }
 
-first_outside : (program : Program) (config : Config) (h : ℕ) → section_of (begin program config) h ≡ None
-unfolding begin
-first_outside program config h =
-    all_first (λ hart. hart.section ≡ None) program.harts (new_hart config.sets) (new_hart 0) refl refl h
-
-first_unarmed : (program : Program) (config : Config) (h : ℕ) → armed_of (begin program config) h ≡ None
-unfolding begin
-first_unarmed program config h =
-    all_first (λ hart. hart.armed ≡ None) program.harts (new_hart config.sets) (new_hart 0) refl refl h
-
 first_bytes : (program : Program) (config : Config) → AreBytes program.bytes →
     AreBytes (begin program config).committed.bytes
 unfolding begin start
@@ -109,12 +98,11 @@ always_holds program config bytes =
     kept_along Holds program config (next_holds program config)
     (record {
       bytes = first_bytes program config bytes;
-      covered = λ h section is. none_some (sym (first_outside program config h) ∙ is);
-      armed_runs = λ h armed is. none_some (sym (first_unarmed program config h) ∙ is);
+      covered = λ h section is.
+          none_some (sym (each_new (λ hart. hart.section ≡ None) program config (λ sets. refl) h) ∙ is);
+      armed_runs = λ h armed is.
+          none_some (sym (each_new (λ hart. hart.armed ≡ None) program config (λ sets. refl) h) ∙ is);
     })
-  where
-    none_some : {A X : Type 0} {x : A} → None ≡ Some x → X
-    none_some wrong = absurd (cc)
 
 pub live_sections_run_covered : LiveSectionsRunCovered
 live_sections_run_covered program config events h section bytes live =

@@ -26,7 +26,7 @@ use Rattle.el_model.specs.RollBack.{beaten, most_tries, out_of_section}
 use Rattle.el_model.specs.Serve.{bystander, served_hart, with_claim}
 use Rattle.el_model.specs.State.{Hart, ModelState, Turn, begin, for_line, hart_of, new_hart, ordered_of, ordered_on}
 use Rattle.el_model.specs.Upcoming.{Swap}
-use Rattle.el_model.proofs.Laws.AllHarts.{all_first}
+use Rattle.section_laws.proofs.Laws.NewHarts.{each_new}
 use Rattle.el_model.proofs.Laws.BusEvents.{by_event}
 use Rattle.el_model.proofs.Laws.Deeds.{step_deed}
 use Rattle.el_model.proofs.Laws.EachHart.{each_with}
@@ -338,9 +338,7 @@ events_up_to most more state (event ∷ events) is now =
 begin_up_to : (program : Program) (config : Config) → AreClocksUpTo 0 (begin program config)
 unfolding begin
 begin_up_to program config = record {
-  harts =
-      all_first (IsHartUpTo 0) program.harts (new_hart config.sets) (new_hart 0) (none_up_to 0 config.sets)
-      (none_up_to 0 0);
+  harts = each_new (IsHartUpTo 0) program config (none_up_to 0);
   ordered = tt;
 }
 

@@ -28,7 +28,6 @@ use Rattle.el_model.specs.RollBack.{beaten, most_tries, out_of_section}
 use Rattle.el_model.specs.Serve.{bystander, served_hart, with_claim}
 use Rattle.el_model.specs.State.{Armed, Hart, ModelState, Section, Turn, armed_of, hart_of, section_of}
 use Rattle.el_model.proofs.Laws.BusEvents.{bus_events_are_told_once, met_becomes}
-use Rattle.el_model.proofs.Laws.Harts.{hart_of-past}
 use Rattle.el_model.proofs.Laws.Restoring.{loser_lives}
 use Rattle.el_model.proofs.Laws.Tests.{by_hart}
 use Rattle.el_model.proofs.Laws.HartParts.{beaten_armed, claim_armed}
@@ -40,6 +39,7 @@ use Rattle.run_laws.proofs.Laws.Reachable.{armed_sections_run_covered}
 use Rattle.section_laws.specs.EachHart.{IsShortArmed}
 use Rattle.section_laws.proofs.Laws.ArmedCounts.{armed_sections_are_short}
 use Rattle.section_laws.proofs.Laws.Moves.{freed_is_armed}
+use Rattle.section_laws.proofs.Laws.NewHarts.{exists_unless_new}
 use Rattle.section_laws.proofs.Laws.Numbered.{requests_are_numbered}
 use Rattle.stamp.specs.Stamps.{Stamp}
 use Rattle.section_laws.proofs.Laws.Waiting.{Rested, always_settled, live_unarmed, rested_in}
@@ -238,12 +238,9 @@ record IsCounted (state : ModelState) (by : ℕ) (start : Start) (g : ℕ) : Typ
 module _ (state : ModelState) (by : ℕ) (start : Start) (few : length state.harts ≤ 8)
     (long : ℕ) (short : (h : ℕ) (armed : Armed) → armed_of state h ≡ Some armed → IsShortArmed long armed) where
   exists : (g : ℕ) (armed : Armed) → armed_of state g ≡ Some armed → g < 8
-  exists g armed is = by_count (nat_lt g (length state.harts)) refl
-    where
-      by_count : (below : Bool) → nat_lt g (length state.harts) ≡ below → g < 8
-      by_count true below = let there = ltb-true g (length state.harts) below in omega (arith, there, few)
-      by_count false past =
-          none_some (sym (ap (λ hart. hart.armed) (hart_of-past state g (ltb-false g (length state.harts) past))) ∙ is)
+  exists g armed is =
+      let there = exists_unless_new (λ hart. hart.armed ≡ Some armed) state g (λ none. none_some none) is in
+      omega (arith, there, few)
 
   counted_hart : (g : ℕ) (head : Request) → Frees state by start g head → IsCounted state by start g
   counted_hart g head frees =

@@ -17,9 +17,9 @@ use Rattle.el_model.specs.Next.{after, next}
 use Rattle.el_model.specs.Plain.{after_candidate, armed_count, candidate_of, seen_by, watched, watching_from}
 use Rattle.el_model.specs.RollBack.{blamed}
 use Rattle.el_model.specs.Serve.{with_claim}
-use Rattle.el_model.specs.State.{Armed, Hart, ModelState, Section, armed_of, begin, hart_of, new_hart}
+use Rattle.el_model.specs.State.{Armed, Hart, ModelState, Section, armed_of, begin, hart_of}
 use Rattle.el_model.specs.Upcoming.{Swap}
-use Rattle.el_model.proofs.Laws.AllHarts.{all_first}
+use Rattle.section_laws.proofs.Laws.NewHarts.{each_new}
 use Rattle.el_model.proofs.Laws.FromStart.{next_config}
 use Rattle.pair_table.specs.Predictor.{Predictor, Watch, counting, judged, saw_with, verdict_on}
 use Rattle.pair_table.specs.declared.seen.Seen.{Seen}
@@ -214,11 +214,7 @@ first_short : (program : Program) (config : Config) → Short config (begin prog
 unfolding begin
 first_short program config = record {
   config_is = refl;
-  each =
-      λ h.
-      all_first (Holds config.long h) program.harts (new_hart config.sets) (new_hart 0)
-      (record { of_section = tt; of_watch = tt })
-      (record { of_section = tt; of_watch = tt }) h;
+  each = λ h. each_new (Holds config.long h) program config (λ sets. record { of_section = tt; of_watch = tt }) h;
 }
 
 long_in_range : (config : Config) → IsInRange config → HasTwo config.long

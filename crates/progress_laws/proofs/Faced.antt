@@ -1,26 +1,22 @@
 -- without stamps a request that is faced as the head of its line meets no section after it: each that met it has lost
-use Rattle.std.proofs.Common.{◌≡◌, ◌≢◌, ◌∙◌, ℕ, ◌+◌, Bool, true, false, ◌&&◌, ◌==◌, not}
-use Rattle.std.proofs.Common.{Option, None, Some, is_some, length, refl, ap, sym, subst, inl, inr, ◌⊎◌, if◌then◌else◌}
-use Rattle.std.specs.Option.{option_or}
+use Rattle.std.proofs.Common.{◌≡◌, ◌∙◌, ℕ, ◌+◌, Bool, true, false, ◌&&◌, ◌==◌, not}
+use Rattle.std.proofs.Common.{Option, None, Some, is_some, length, refl, ap, sym, inl, inr, ◌⊎◌, if◌then◌else◌}
 use Rattle.std.specs.Prelude.{nat_lt}
 use Rattle.std.proofs.lemmas.Bool.{ltb-true, ltb-false}
 use Rattle.bus_order.specs.Order.{IsOneEach, Request, first_of}
-use Rattle.bus_order.proofs.Laws.LookUps.{first_of_appended_other, first_of_appended_own, first_of_in_front_of_other}
-use Rattle.bus_order.proofs.Laws.LookUps.{first_of_in_front_of_own}
 use Rattle.bus_order.proofs.Laws.Queues.{first_of_removed_other, hart_of_request_of}
 use Rattle.std.proofs.lemmas.Bool.{cases_eq}
 use Rattle.el_base.specs.declared.config.Mode.{Mode}
 use Rattle.el_base.specs.declared.config.Mode.TheVariants.{Plain, Sle, Tlr}
 use Rattle.el_base.proofs.Laws.Cases.{false_true}
 use Rattle.el_base.proofs.Laws.Tests.{false_between, number_of_test, own_test}
-use Rattle.el_base.proofs.Laws.Options.{none_from}
 use Rattle.el_model.specs.BusEvent.{IsBusEvent, Nothing, Places, Serves, Start, StartsWhere, Takes, as_faced}
 use Rattle.el_model.specs.BusEvent.{faced_head, having_taken, order_after}
-use Rattle.el_model.specs.BusEvent.{order_at, started}
+use Rattle.el_model.specs.BusEvent.{started}
 use Rattle.el_model.specs.Conflicts.{conflicts, conflicts_with, meets_bit, retains, wins_over}
 use Rattle.el_model.specs.Face.{LosesTo, Unmet, after_fate, deferring_fate, faced, faced_hart, fate_of, markers_for}
 use Rattle.el_model.specs.Face.{winning_stamp}
-use Rattle.el_model.specs.Order.{Alone, Behind, InFront, Place, place_for}
+use Rattle.el_model.specs.Order.{Place}
 use Rattle.el_model.specs.Quiet.{has_stamps}
 use Rattle.el_model.specs.RollBack.{beaten, most_tries, out_of_section}
 use Rattle.el_model.specs.Serve.{bystander, served_hart}
@@ -33,6 +29,7 @@ use Rattle.section_laws.proofs.Laws.Fewer.{bystander_fewer, fewer_moves, fewer_u
 use Rattle.section_laws.proofs.Laws.Bits.{Fewer, fewer_same}
 use Rattle.policy.specs.Winners.{wins_of}
 use Rattle.section_laws.proofs.Laws.Moves.{moved, taken_keeps}
+use Rattle.section_laws.proofs.Laws.Placed.{StaysOrIsFaced, placed_first}
 use Rattle.stamp.specs.Stamps.{Stamp}
 
 -- without stamps each request wins
@@ -111,31 +108,6 @@ same_head state new h line fewer same unmet =
     ap (λ head. conflicts_with head h (hart_of new h)) same
     ∙ fewer_unmet (head_of state line) h line (hart_of state h) (hart_of new h) (head_line state line) fewer unmet
 
--- a place is right for a request
-abbrev Fits : ModelState → Request → Place → Type 0
-Fits state request InFront = Unit {0}
-Fits state request Behind = is_some (head_of state request.line) ≡ true
-Fits state request Alone = head_of state request.line ≡ None
-
-fits : (state : ModelState) (request : Request) → Fits state request (place_for state request)
-fits state request =
-    by_test (Fits state request) _ InFront _ (λ own. tt)
-    (λ other.
-    by_test (Fits state request) (is_some (head_of state request.line)) Behind Alone (λ some. some)
-    (λ none. none_from (head_of state request.line) none))
-
-other_heads : (state : ModelState) (request : Request) (place : Place) (line : ℕ) → line ≢ request.line →
-    first_of (order_at state request place) line ≡ head_of state line
-other_heads state request InFront line other =
-    first_of_in_front_of_other state.order request line (λ same. other (sym same))
-other_heads state request Behind line other =
-    first_of_appended_other state.order request line (λ same. other (sym same))
-other_heads state request Alone line other = first_of_appended_other state.order request line (λ same. other (sym same))
-
-first_stays : {A : Type 0} (one other : Option A) → is_some one ≡ true → option_or one other ≡ one
-first_stays None other some = false_true some
-first_stays (Some x) other some = refl
-
 -- after a start a line has its head as before, and each section no bit more there, or the head that is faced
 record HeadStays (state : ModelState) (by : ℕ) (start : Start) (line : ℕ) : Type 0 where
   same : first_of (order_after state start) line ≡ head_of state line
@@ -154,32 +126,16 @@ placed_fewer state by request place line h =
     by_hart (Fewer line (hart_of state h)) h request.hart (record (hart_of state h) { raised = None }) (hart_of state h)
     (λ own. fewer_same line (hart_of state h) _ refl refl) (λ other. as_before state line h)
 
--- of its own line a request is the head that is faced, unless it is behind others
-own_head : (state : ModelState) (by : ℕ) (request : Request) (place : Place) → Fits state request place →
-    HeadAfter state by (Places request place) request.line
-own_head state by request InFront fit = inr (first_of_in_front_of_own state.order request)
-own_head state by request Behind fit =
-    inl (record {
-      same = first_of_appended_own state.order request ∙ first_stays (head_of state request.line) (Some request) fit;
-      fewer = placed_fewer state by request Behind request.line;
-    })
-own_head state by request Alone fit =
-    inr (first_of_appended_own state.order request ∙ ap (λ head. option_or head (Some request)) fit)
-
 head_after : (state : ModelState) (by : ℕ) (start : Start) → StartsWhere state by start → IsOneEach state.order →
     (line : ℕ) →
     HeadAfter state by start line
 head_after state by Nothing where_it once line = inl (record { same = refl; fewer = as_before state line })
-head_after state by (Places request place) may once line = by_line (cases_eq line request.line)
+head_after state by (Places request place) may once line =
+    either (placed_first state request place line may.place_is)
   where
-    by_line : (line ≡ request.line) ⊎ (line ≡ request.line → ⊥) → HeadAfter state by (Places request place) line
-    by_line (inl same) =
-        rw same (own_head state by request place (subst (Fits state request) (sym may.place_is) (fits state request)))
-    by_line (inr other) =
-        inl (record {
-          same = other_heads state request place line other;
-          fewer = placed_fewer state by request place line;
-        })
+    either : StaysOrIsFaced state request place line → HeadAfter state by (Places request place) line
+    either (inl same) = inl (record { same = same; fewer = placed_fewer state by request place line })
+    either (inr own) = inr own
 head_after state by (Serves request) may once line = by_line (cases_eq line request.line)
   where
     mine : ordered_of state request.hart ≡ Some request

@@ -216,9 +216,6 @@ new_bit state h section touch may unmet unwanted new cache =
         ∙ sym (ap (meets_bit (hart_of state h) head.line) reads)
         ∙ bit
 
-refused_not : (permitted wanted : Bool) → (not permitted || wanted) ≡ false → wanted ≡ false
-refused_not permitted wanted is = second_not (not permitted) wanted is
-
 touch_unmet : (state : ModelState) (h : ℕ) (section : Section) (touch : Touch) →
     MayBuffer state h section (Some touch) → Unmet state h (hart_of state h) →
     Unmet state h (buffered_hart section (Some touch) (hart_of state h))
@@ -245,7 +242,7 @@ touch_unmet state h section touch may unmet =
         unmet
     by false is (inl covers) line = false_true (sym is ∙ covers)
     by false is (inr (room, fine)) line =
-        new_bit state h section touch may unmet (refused_not (permits state h touch) _ fine) (new false) refl line
+        new_bit state h section touch may unmet (second_not (not (permits state h touch)) _ fine) (new false) refl line
 
 buffers_unmet : (state : ModelState) (h : ℕ) (section : Section) (touch : Option Touch) →
     MayBuffer state h section touch → Unmet state h (hart_of state h) →

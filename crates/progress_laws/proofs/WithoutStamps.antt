@@ -8,7 +8,7 @@ use Rattle.el_model.specs.Quiet.{IsSilent, has_stamps}
 use Rattle.el_model.specs.State.{ModelState, begin}
 use Rattle.el_model.proofs.Laws.AllHarts.{All}
 use Rattle.el_model.proofs.Laws.BusEvents.{by_event}
-use Rattle.el_model.proofs.Laws.FromStart.{kept_after, next_config, stampless_silent}
+use Rattle.el_model.proofs.Laws.FromStart.{begin_config, kept_after, next_config, stampless_silent}
 use Rattle.el_model.proofs.Laws.Silent.{next_silent}
 use Rattle.progress_laws.proofs.Faced.{NoneRetains, bus_unretained}
 use Rattle.progress_laws.proofs.AllWait.{OnlyWaits, gets_on_or_waits}
@@ -47,11 +47,6 @@ next_stampless state event now = record {
   unretained = next_unretained state event now;
 }
 
-begin_mode : (program : Program) (config : Config) → has_stamps config.mode ≡ false →
-    has_stamps (begin program config).config.mode ≡ false
-unfolding begin
-begin_mode program config stampless = stampless
-
 first_unretained : (program : Program) (config : Config) → NoneRetains (begin program config)
 unfolding begin
 first_unretained program config h line = refl
@@ -61,7 +56,7 @@ always_stampless : (program : Program) (config : Config) (events : List Event) �
 always_stampless program config events mode =
     kept_after Stampless next_stampless (begin program config) events
     (record {
-      mode = begin_mode program config mode;
+      mode = ap (λ c. has_stamps c.mode) (begin_config program config) ∙ mode;
       silent = stampless_silent program config [] mode;
       once = first_once program config;
       outside = first_each bits.kept program config;

@@ -1,12 +1,13 @@
 -- What an entry has after bytes were stored in it, and a line after those of an entry were merged into it.
 use Rattle.std.proofs.Common.{◌≡◌, ℕ, ◌+◌, ◌-◌, ◌<◌, ◌≤◌, ◌==◌, ◌&&◌, ◌||◌, nat_le, nat_lt, if◌then◌else◌, Bool, true}
 use Rattle.std.proofs.Common.{false, List, ◌++◌, drop}
-use Rattle.std.proofs.Common.{length, take, slice_index, Option, None, Some, bit_or, refl, inl, inr, ap, ◌∙◌, arith}
+use Rattle.std.proofs.Common.{length, take, slice_index, Some, bit_or, refl, inl, inr, ap, ◌∙◌, arith}
 use Rattle.std.specs.Int.{bit_at}
 use Rattle.std.proofs.lemmas.Bool.{cases_lt}
 use Rattle.std.proofs.lemmas.Bool.Decides.{nat_tests}
 use Rattle.std.proofs.lemmas.Grind.{common_steps}
 use Rattle.el_base.proofs.Laws.BitSets.{bit_in_or}
+use Rattle.el_base.specs.Firsts.{some_if}
 use Rattle.write_hold.specs.Held.{laid}
 
 -- a list after some bytes took the place of others
@@ -51,13 +52,9 @@ written_over offset place bytes old now inside is =
       | inr past ↦ put_above offset bytes old inside place (grind (arith, nat_tests))
     ]
 
--- a byte that may have been stored
-abbrev stored : Bool → ℕ → Option ℕ
-stored known byte = if known then Some byte else None
-
 -- it is stored where it was before, or is among the new ones
 chosen : (was within : Bool) (new old put : ℕ) → Some new ≡ (if within then Some put else Some old)
-    → stored (was || within) new ≡ (if within then Some put else stored was old)
+    → some_if (was || within) new ≡ (if within then Some put else some_if was old)
 chosen true true new old put is = is
 chosen false true new old put is = is
 chosen true false new old put is = is
@@ -66,10 +63,10 @@ chosen false false new old put is = refl
 pub stored_over : (offset place mask run : ℕ) (bytes old now : List ℕ)
     → Some (slice_index now place) ≡ laid offset bytes place (Some (slice_index old place))
     → (bit_at run place == 1) ≡ (nat_le offset place && nat_lt place (offset + length bytes))
-    → stored (bit_at (bit_or mask run) place == 1) (slice_index now place)
-    ≡ laid offset bytes place (stored (bit_at mask place == 1) (slice_index old place))
+    → some_if (bit_at (bit_or mask run) place == 1) (slice_index now place)
+    ≡ laid offset bytes place (some_if (bit_at mask place == 1) (slice_index old place))
 stored_over offset place mask run bytes old now is marked =
-    ap (λ known. stored known (slice_index now place))
+    ap (λ known. some_if known (slice_index now place))
     (bit_in_or mask run place ∙ ap (λ within. bit_at mask place == 1 || within) marked)
     ∙ chosen (bit_at mask place == 1) (nat_le offset place && nat_lt place (offset + length bytes))
     (slice_index now place)

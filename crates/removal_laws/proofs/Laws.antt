@@ -1,4 +1,5 @@
 -- the laws that are offered to the crates above; every other file here is private
+pub mod Asked
 pub mod Attempts
 pub mod Clocks
 pub mod Facing

@@ -17,7 +17,7 @@ use Rattle.stamp.specs.Stamps.{Stamp}
 use Rattle.el_base.proofs.Laws.Tests.{number_of_test, own_test}
 
 -- what is in a box after a message was posted
-pub still_there : (box : List Message) (new message : Message) → has_message box message ≡ true →
+still_there : (box : List Message) (new message : Message) → has_message box message ≡ true →
     has_message (posted box new) message ≡ true
 still_there box new message is = by (same_message new message) refl
   where
@@ -104,6 +104,17 @@ let_go_posts state g pc hart =
     posted_same state g hart (let_go_hart pc hart) refl refl refl refl refl (no_less hart.seen)
     (λ line. record { live = λ live. live; bits = λ live. no_more_cleared hart.cache line })
 
+-- a message is posted: no link ends, and nothing that is known
+pub links_still : (hart : Hart) (new : Message) (before : ℕ) → IsLinked hart before →
+    IsLinked (record hart { mail = posted hart.mail new }) before
+links_still hart new before (inl sent) = inl (still_there hart.mail new (Marker before) sent)
+links_still hart new before (inr is) = inr is
+
+pub knows_still : (hart : Hart) (new : Message) (origin : ℕ) → Knows hart origin →
+    Knows (record hart { mail = posted hart.mail new }) origin
+knows_still hart new origin (inl sent) = inl (still_there hart.mail new (Probe origin) sent)
+knows_still hart new origin (inr is) = inr is
+
 -- a marker is posted
 marker_sender : (a b : ℕ) → Marker a ≡ Marker b → a ≡ b
 marker_sender a b is = cc
@@ -119,19 +130,15 @@ marked state g sender hart may = record {
   upstream = refl;
   attempt = refl;
   seen = no_less hart.seen;
-  links = λ before is. kept before is;
+  links = links_still hart (Marker sender);
   fresh = λ before is. from before is;
-  knows = λ origin is. told_still origin is;
+  knows = knows_still hart (Marker sender);
   known = λ origin is. told_before origin is;
   fewer = λ line. fewer_same line hart (record hart { mail = posted hart.mail (Marker sender) }) refl refl;
 }
   where
     new : Hart
     new = record hart { mail = posted hart.mail (Marker sender) }
-
-    kept : (before : ℕ) → IsLinked hart before → IsLinked new before
-    kept before (inl sent) = inl (still_there hart.mail (Marker sender) (Marker before) sent)
-    kept before (inr is) = inr is
 
     by_message : (before : ℕ) → (has_message hart.mail (Marker before) ≡ true) ⊎ (Marker sender ≡ Marker before) →
         IsLinked hart before ⊎ MayPrecede state g before
@@ -141,10 +148,6 @@ marked state g sender hart may = record {
     from : (before : ℕ) → IsLinked new before → IsLinked hart before ⊎ MayPrecede state g before
     from before (inl sent) = by_message before (there_or_new hart.mail (Marker sender) (Marker before) sent)
     from before (inr is) = inl (inr is)
-
-    told_still : (origin : ℕ) → Knows hart origin → Knows new origin
-    told_still origin (inl sent) = inl (still_there hart.mail (Marker sender) (Probe origin) sent)
-    told_still origin (inr is) = inr is
 
     by_probe : (origin : ℕ) → (has_message hart.mail (Probe origin) ≡ true) ⊎ (Marker sender ≡ Probe origin) →
         Knows hart origin
@@ -195,5 +198,4 @@ all_linked (first ∷ senders) hart sender is =
     next : has (first ∷ senders) sender ≡ true ⊎ IsLinked hart sender →
         has senders sender ≡ true ⊎ IsLinked (record hart { mail = posted hart.mail (Marker first) }) sender
     next (inl is) = here (first == sender) refl is
-    next (inr (inl sent)) = inr (inl (still_there hart.mail (Marker first) (Marker sender) sent))
-    next (inr (inr is)) = inr (inr is)
+    next (inr linked) = inr (links_still hart (Marker first) sender linked)

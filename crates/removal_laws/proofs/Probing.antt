@@ -12,7 +12,7 @@ use Rattle.removal_laws.specs.Facts.{Everywhere, IsLinked, Knows, MayBeKnown}
 use Rattle.section_laws.proofs.Laws.Bits.{Fewer, fewer_same, fewer_twice, no_less}
 use Rattle.removal_laws.proofs.Grounds.{Standing}
 use Rattle.removal_laws.proofs.Kept.{Owed, OwedOf, messages_moved, retaining_trimmed}
-use Rattle.removal_laws.proofs.Posting.{still_there, there_or_new}
+use Rattle.removal_laws.proofs.Posting.{knows_still, links_still, there_or_new}
 use Rattle.el_model.proofs.Laws.EachHart.{Each}
 use Rattle.stamp.specs.Stamps.{is_before}
 use Rattle.el_base.proofs.Laws.Tests.{number_of_test, own_test}
@@ -54,9 +54,9 @@ probed Up Told state g origin old hart may now = record {
   raised = now.raised;
   attempt = now.attempt;
   seen = now.seen;
-  links = λ before is. links before (now.links before is);
+  links = λ before is. links_still hart (Probe origin) before (now.links before is);
   linked = λ before is. now.linked before (linked before is);
-  knows = λ other is. knows other (now.knows other is);
+  knows = λ other is. knows_still hart (Probe origin) other (now.knows other is);
   known = λ other is. known other is;
   upstream = now.upstream;
   told = now.told;
@@ -68,10 +68,6 @@ probed Up Told state g origin old hart may now = record {
     new : Hart
     new = record hart { mail = posted hart.mail (Probe origin) }
 
-    links : (before : ℕ) → IsLinked hart before → IsLinked new before
-    links before (inl sent) = inl (still_there hart.mail (Probe origin) (Marker before) sent)
-    links before (inr is) = inr is
-
     of_marker : (before : ℕ) → (has_message hart.mail (Marker before) ≡ true) ⊎ (Probe origin ≡ Marker before) →
         IsLinked hart before
     of_marker before (inl was) = inl was
@@ -80,10 +76,6 @@ probed Up Told state g origin old hart may now = record {
     linked : (before : ℕ) → IsLinked new before → IsLinked hart before
     linked before (inl sent) = of_marker before (there_or_new hart.mail (Probe origin) (Marker before) sent)
     linked before (inr is) = inr is
-
-    knows : (other : ℕ) → Knows hart other → Knows new other
-    knows other (inl sent) = inl (still_there hart.mail (Probe origin) (Probe other) sent)
-    knows other (inr is) = inr is
 
     of_probe : (other : ℕ) → (has_message hart.mail (Probe other) ≡ true) ⊎ (Probe origin ≡ Probe other) →
         Knows old other ⊎ MayBeKnown state g other
@@ -132,8 +124,7 @@ all_known (first ∷ origins) hart origin is =
 
     next : (has (first ∷ origins) origin ≡ true) ⊎ Knows hart origin → (has origins origin ≡ true) ⊎ Knows new origin
     next (inl is) = here (first == origin) refl is
-    next (inr (inl sent)) = inr (inl (still_there hart.mail (Probe first) (Probe origin) sent))
-    next (inr (inr is)) = inr (inr is)
+    next (inr known) = inr (knows_still hart (Probe first) origin known)
 
 -- the first message of a mailbox, and the others
 pub first_or_later : (first : Message) (others : List Message) (message : Message) →

@@ -1,5 +1,5 @@
 -- what holds still holds after a step: it posts nothing, and a section that retains no line does not begin to
-use Rattle.std.proofs.Common.{◌≡◌, ◌≢◌, ◌∙◌, ◌≤◌, ◌+◌, ◌==◌, ◌&&◌, ◌||◌, ℕ, Bool, true, false, not, List, [], ◌∷◌}
+use Rattle.std.proofs.Common.{◌≡◌, ◌≢◌, ◌∙◌, ◌≤◌, ◌+◌, ℕ, Bool, true, false, not, List}
 use Rattle.std.proofs.Common.{length, Option, None, Some}
 use Rattle.std.proofs.Common.{is_some, refl, ap, sym, inl, inr, ◌⊎◌, subst, if◌then◌else◌}
 use Rattle.std.proofs.Math.ListN.{length-set}
@@ -15,8 +15,8 @@ use Rattle.el_base.specs.Line.{line_number}
 use Rattle.el_base.specs.declared.outcomes.Need.{Need}
 use Rattle.el_base.specs.declared.outcomes.Need.TheVariants.{Read, Write}
 use Rattle.el_base.proofs.Laws.Cases.{clash, some_none}
-use Rattle.el_base.proofs.Laws.Tests.{other_test, second_not}
-use Rattle.el_model.specs.Conflicts.{conflicts_with, is_asked, is_wanted, is_wanted_to_write, is_write, meets_bit}
+use Rattle.el_base.proofs.Laws.Tests.{second_not}
+use Rattle.el_model.specs.Conflicts.{conflicts_with, is_wanted, is_wanted_to_write, is_write, meets_bit}
 use Rattle.el_model.specs.Deed.{Arms, Begins, Buffers, Commits, Continues, Deed, DoesWhere, Elides, IsCoverable, LetsGo}
 use Rattle.el_model.specs.Deed.{MayElide, Misses, Rests}
 use Rattle.el_model.specs.Deed.{RollsBack, Runs, Waits, done, hart_after, permits}
@@ -36,6 +36,7 @@ use Rattle.section_laws.proofs.Laws.ArmedBits.{completing}
 use Rattle.section_laws.proofs.Laws.Bits.{either, no_less}
 use Rattle.section_laws.specs.EachHart.{HasNoOtherBit}
 use Rattle.removal_laws.proofs.Grounds.{Grounds, Standing}
+use Rattle.removal_laws.proofs.Laws.Asked.{asked_not}
 use Rattle.removal_laws.proofs.Kept.{Moved, may_kept, messages_moved}
 use Rattle.el_model.proofs.Laws.EachHart.{Each, each_but}
 use Rattle.el_model.proofs.Laws.Orders.{head_line}
@@ -123,35 +124,6 @@ outside_stepped state g new none = record {
   raised = λ request is live bit. clash (ap is_some none) live;
   ordered = λ request is live bit. clash (ap is_some none) live;
 }
-
--- who is asked for a line: where no other hart is, its head is the hart's own
-asked_not : (counts : Request → Bool) (order : List Request) (h line : ℕ) (head : Request) →
-    is_asked counts order h line ≡ false → first_of order line ≡ Some head → head.hart ≢ h → counts head ≡ false
-asked_not counts [] h line head none is apart = absurd (cc)
-asked_not counts (request ∷ order) h line head none is apart =
-    by (λ rest. asked_not counts order h line head rest) (request.line == line) refl none is
-  where
-    neither : (a b : Bool) → (a || b) ≡ false → (a ≡ false) × (b ≡ false)
-    neither true b is = absurd (cc)
-    neither false b is = (refl, is)
-
-    counted : (other counts_it : Bool) → other ≡ true → ((true && other) && counts_it) ≡ false → counts_it ≡ false
-    counted true counts_it is none = none
-    counted false counts_it is none = absurd (cc)
-
-    by : (is_asked counts order h line ≡ false → first_of order line ≡ Some head → head.hart ≢ h →
-        counts head ≡ false) → (here : Bool) → (request.line == line) ≡ here →
-        (((here && not (request.hart == h)) && counts request) || is_asked counts order h line) ≡ false →
-        (if here then Some request else first_of order line) ≡ Some head → counts head ≡ false
-    by rest true same none found =
-        let e : request ≡ head = same_Some _ _ found in
-        subst (λ r. counts r ≡ false) e
-        (counted (not (request.hart == h)) (counts request)
-        (ap not (other_test request.hart h (λ own. apart (ap (λ r. r.hart) (sym e) ∙ own))))
-        (neither ((true && not (request.hart == h)) && counts request) (is_asked counts order h line) none).0)
-    by rest false other none found =
-        rest (neither ((false && not (request.hart == h)) && counts request) (is_asked counts order h line) none).1
-        found apart
 
 -- a new bit on a line that no other hart waits for in conflict meets no head more
 wanted_bit : (state : ModelState) (h line : ℕ) (need : Need) (old new : Hart) (head : Request) →

@@ -18,6 +18,7 @@ use Rattle.el_model.specs.Deliver.{after_probe, deliver_next, deliver_turn, deli
 use Rattle.el_model.specs.Deliver.{loses_to_origin, taken, told_of}
 use Rattle.el_model.specs.RollBack.{beaten, out_of_section}
 use Rattle.el_model.specs.State.{Hart, ModelState, hart_of, head_of, ordered_of, ordered_on, with_hart}
+use Rattle.el_model.proofs.Laws.Conflicts.{loser_lives}
 use Rattle.el_model.proofs.Laws.Harts.{each_hart_kept, hart_of-each_hart, hart_of-with_hart_other}
 use Rattle.el_model.proofs.Laws.Harts.{hart_of-with_hart_same}
 use Rattle.el_model.proofs.Laws.Keeps.{length-each_from}
@@ -318,8 +319,7 @@ module _ (state : ModelState) (h origin : ℕ) (others : List Message)
 
   no_section_meets : {X : Type 0} (head : Option Request) (g : ℕ) (hart : Hart) → hart.section ≡ None →
       conflicts_with head g hart ≡ true → X
-  no_section_meets None g hart none is = absurd (cc)
-  no_section_meets (Some asked) g hart none is = clash (ap is_some none) (meets asked g hart is).live
+  no_section_meets head g hart none is = clash (ap is_some none) (loser_lives head g hart is)
 
   mail_aside : (head : Option Request) → conflicts_with head h (hart_of state h) ≡ true →
       conflicts_with head h (record (hart_of state h) { mail = others }) ≡ true

@@ -1,5 +1,5 @@
 -- without stamps a request that is faced as the head of its line meets no section after it: each that met it has lost
-use Rattle.std.proofs.Common.{◌≡◌, ◌∙◌, ℕ, ◌+◌, Bool, true, false, ◌&&◌, ◌==◌, not}
+use Rattle.std.proofs.Common.{◌≡◌, ◌∙◌, ℕ, Bool, true, false, ◌&&◌, ◌==◌, not}
 use Rattle.std.proofs.Common.{Option, None, Some, is_some, length, refl, ap, sym, inl, inr, ◌⊎◌, if◌then◌else◌}
 use Rattle.std.specs.Prelude.{nat_lt}
 use Rattle.std.proofs.lemmas.Bool.{ltb-true, ltb-false}
@@ -16,13 +16,14 @@ use Rattle.el_model.specs.BusEvent.{started}
 use Rattle.el_model.specs.Conflicts.{conflicts, conflicts_with, meets_bit, retains, wins_over}
 use Rattle.el_model.specs.Face.{LosesTo, Unmet, after_fate, deferring_fate, faced, faced_hart, fate_of, markers_for}
 use Rattle.el_model.specs.Face.{winning_stamp}
+use Rattle.el_model.specs.Losses.{standing_of}
 use Rattle.el_model.specs.Order.{Place}
 use Rattle.el_model.specs.Quiet.{has_stamps}
-use Rattle.el_model.specs.RollBack.{beaten, most_tries, out_of_section}
 use Rattle.el_model.specs.Serve.{bystander, served_hart}
 use Rattle.el_model.specs.State.{Hart, ModelState, Turn, hart_of, head_of, new_hart, ordered_of, post_all}
 use Rattle.el_model.proofs.Laws.BusEvents.{frame_as_faced}
 use Rattle.el_model.proofs.Laws.Harts.{hart_of-each_hart, hart_of-each_hart_past}
+use Rattle.el_model.proofs.Laws.Losing.{beaten_stands, lost_section}
 use Rattle.el_model.proofs.Laws.Orders.{head_line, served_order}
 use Rattle.el_model.proofs.Laws.Tests.{by_hart, by_test}
 use Rattle.section_laws.proofs.Laws.Fewer.{bystander_fewer, fewer_moves, fewer_unmet, served_fewer}
@@ -50,17 +51,6 @@ own_unmet head h hart is =
     ap (λ k. conflicts head k hart) (number_of_test h head.hart is)
     ∙ ap (λ own. (not own && is_some hart.section) && meets_bit hart head.line head.need) (own_test head.hart)
 
-beaten_out : (mode : Mode) (winner : Option Stamp) (hart : Hart) → (beaten mode winner hart).section ≡ None
-beaten_out Tlr winner hart = refl
-beaten_out Sle winner hart =
-    by_test (λ new. new.section ≡ None) (hart.tries + 1 == most_tries)
-    (record (out_of_section hart) { tries = 0; fallback = true })
-    (record (out_of_section hart) { tries = hart.tries + 1 }) (λ last. refl) (λ more. refl)
-beaten_out Plain winner hart =
-    by_test (λ new. new.section ≡ None) (hart.tries + 1 == most_tries)
-    (record (out_of_section hart) { tries = 0; fallback = true })
-    (record (out_of_section hart) { tries = hart.tries + 1 }) (λ last. refl) (λ more. refl)
-
 fate_unmet : (state : ModelState) (head : Request) (h : ℕ) (hart : Hart) → has_stamps state.config.mode ≡ false →
     (meets : Bool) → conflicts head h hart ≡ meets → (wins : Bool) → wins ≡ true → conflicts head h
     (after_fate state head
@@ -69,7 +59,8 @@ fate_unmet : (state : ModelState) (head : Request) (h : ℕ) (hart : Hart) → h
 fate_unmet state head h hart stampless false is wins all = is
 fate_unmet state head h hart stampless true is true all =
     dead_unmet head h (after_fate state head (LosesTo head.hart) hart)
-    (beaten_out state.config.mode (winning_stamp state head.line head.hart) hart)
+    (ap (λ standing. standing.section) (beaten_stands state.config.mode (winning_stamp state head.line head.hart) hart)
+    ∙ lost_section state.config.mode (standing_of hart))
 fate_unmet state head h hart stampless true is false all = false_true all
 
 faced_hart_unmet : (state : ModelState) (head : Request) (h : ℕ) (hart : Hart) → has_stamps state.config.mode ≡ false →

@@ -1,9 +1,9 @@
 -- a step gives no section a bit that the head of the line conflicts with
-use Rattle.std.proofs.Common.{◌≡◌, ◌≢◌, ◌∙◌, ℕ, ◌+◌, Bool, true, false, ◌&&◌, ◌||◌, ◌==◌, not, List, []}
-use Rattle.std.proofs.Common.{◌∷◌, Option, None, Some, is_some, option_map, refl, ap, sym, subst, inl, inr, ◌⊎◌}
+use Rattle.std.proofs.Common.{◌≡◌, ◌≢◌, ◌∙◌, ℕ, ◌+◌, Bool, true, false, ◌&&◌, ◌==◌, not, List}
+use Rattle.std.proofs.Common.{Option, None, Some, is_some, option_map, refl, ap, sym, subst, inl, inr, ◌⊎◌}
 use Rattle.std.proofs.Common.{if◌then◌else◌}
 use Rattle.std.proofs.lemmas.Bool.{cases_eq}
-use Rattle.bus_order.specs.Order.{Request, first_of}
+use Rattle.bus_order.specs.Order.{Request}
 use Rattle.bus_order.proofs.Laws.Queues.{line_of_first_of}
 use Rattle.residency.specs.Cache.{bit_in, has_marks, marked, touched, way_of, write_bit}
 use Rattle.residency.specs.Residency.{Way, with_bit}
@@ -14,7 +14,7 @@ use Rattle.el_base.specs.declared.outcomes.Need.{Need}
 use Rattle.el_base.specs.declared.outcomes.Need.TheVariants.{Read, Write}
 use Rattle.el_base.proofs.Laws.Cases.{false_true, true_false}
 use Rattle.el_base.proofs.Laws.Tests.{first_not, second_not}
-use Rattle.el_model.specs.Conflicts.{conflicts, conflicts_with, is_asked, is_wanted, is_wanted_to_write, is_write}
+use Rattle.el_model.specs.Conflicts.{conflicts, conflicts_with, is_wanted, is_wanted_to_write, is_write}
 use Rattle.el_model.specs.Conflicts.{meets_bit, writes}
 use Rattle.el_model.specs.Deed.{Arms, Begins, Buffers, Commits, Continues, Deed, DoesWhere, Elides, IsCoverable, LetsGo}
 use Rattle.el_model.specs.Deed.{MayBuffer, Misses, Rests, RollsBack, Runs, Waits, hart_after, permits}
@@ -25,6 +25,7 @@ use Rattle.el_model.specs.State.{Hart, ModelState, Section, cache_of, hart_of, h
 use Rattle.el_model.specs.Upcoming.{Swap, Touch}
 use Rattle.el_model.proofs.Laws.Deeds.{step_deed}
 use Rattle.progress_laws.proofs.Faced.{NoneRetains, dead_unmet}
+use Rattle.removal_laws.proofs.Laws.Asked.{asked_first}
 use Rattle.section_laws.proofs.Laws.Fewer.{fewer_unmet}
 use Rattle.section_laws.proofs.Laws.Bits.{Fewer, NoMore, fewer_same, no_more_marked, no_more_same, no_more_touched}
 use Rattle.section_laws.proofs.Laws.Bits.{no_more_twice}
@@ -34,34 +35,6 @@ use Rattle.section_laws.proofs.Laws.FreeLines.{not_met}
 use Rattle.el_model.proofs.Laws.EachHart.{Each, each_but}
 use Rattle.el_model.proofs.Laws.HartParts.{candidate_section}
 use Rattle.el_model.proofs.Laws.Orders.{head_line}
-
--- what nobody else asks of a line, its head does not ask
-asked_first : (counts : Request → Bool) (order : List Request) (h line : ℕ) (head : Request) →
-    is_asked counts order h line ≡ false → first_of order line ≡ Some head →
-    (not (head.hart == h) && counts head) ≡ false
-asked_first counts [] h line head unasked first = absurd (cc)
-asked_first counts (request ∷ order) h line head unasked first =
-    by (request.line == line) (asked_first counts order h line head) unasked first
-  where
-    here : (other counted rest : Bool) → (((true && other) && counted) || rest) ≡ false → (other && counted) ≡ false
-    here true true rest is = true_false is
-    here true false rest is = refl
-    here false counted rest is = refl
-
-    behind : (other counted rest : Bool) → (((false && other) && counted) || rest) ≡ false → rest ≡ false
-    behind other counted rest is = is
-
-    by : (on_line : Bool) →
-        (is_asked counts order h line ≡ false → first_of order line ≡ Some head →
-        (not (head.hart == h) && counts head) ≡ false) →
-        (((on_line && not (request.hart == h)) && counts request) || is_asked counts order h line) ≡ false →
-        (if on_line then Some request else first_of order line) ≡ Some head →
-        (not (head.hart == h) && counts head) ≡ false
-    by true rest unasked first =
-        let same : request ≡ head = cc in
-        subst (λ r. (not (r.hart == h) && counts r) ≡ false) same
-        (here (not (request.hart == h)) (counts request) _ unasked)
-    by false rest unasked first = rest (behind (not (request.hart == h)) (counts request) _ unasked) first
 
 unmet_by : (other live meets : Bool) → meets ≡ false → ((other && live) && meets) ≡ false
 unmet_by true true meets is = is

@@ -1,14 +1,15 @@
 -- where nothing gets on at once, each mailbox is empty and each hart that runs has an ordered request
 use Rattle.std.proofs.Common.{◌≡◌, ◌≢◌, ◌∙◌, ℕ, zero, suc, ◌<◌, ◌≤◌, Bool, true, false, List, []}
-use Rattle.std.proofs.Common.{◌∷◌, Option, None, Some, length, refl, ap, sym, subst, inl, inr, ◌⊎◌, arith}
+use Rattle.std.proofs.Common.{◌∷◌, Option, None, Some, length, refl, ap, sym, inl, inr, ◌⊎◌, arith}
 use Rattle.std.specs.Prelude.{nat_lt}
-use Rattle.std.proofs.lemmas.Bool.{cases_eq, ltb-true, ltb-false}
+use Rattle.std.proofs.lemmas.Bool.{ltb-true, ltb-false}
 use Rattle.bus_order.specs.Order.{Request}
 use Rattle.el_model.specs.State.{ModelState, hart_of, ordered_of, raised_of}
 use Rattle.el_model.proofs.Laws.Harts.{hart_of-past}
 use Rattle.mail.specs.Mailbox.{Message}
 use Rattle.progress_laws.proofs.Laws.GettingOn.{GetsOn, Orderly}
 use Rattle.progress_laws.proofs.Laws.GettingOn.{free_gets_on, mail_gets_on, raised_gets_on}
+use Rattle.progress_laws.proofs.LeastStamp.{at_limit}
 use Rattle.rv_alu.specs.declared.view.HartStatus.{HartStatus}
 use Rattle.rv_alu.specs.declared.view.HartStatus.TheVariants.{Exited, Running, Trapped}
 use Rattle.rv_flat.specs.FlatState.{status_of}
@@ -19,14 +20,10 @@ pub each_or : {G : Type 0} (P : ℕ → Type 0) (n : ℕ) → ((k : ℕ) → k <
 each_or P zero one = inr (λ k below. absurd (omega (arith, below)))
 each_or {G} P (suc n) one = by (one n (omega arith)) (each_or P n (λ k below. one k (omega (arith, below))))
   where
-    at : P n → ((k : ℕ) → k < n → P k) → (k : ℕ) → k < suc n → (k ≡ n) ⊎ (k ≡ n → ⊥) → P k
-    at last others k below (inl same) = subst P (sym same) last
-    at last others k below (inr apart) = others k (omega (arith, below, apart))
-
     by : G ⊎ P n → G ⊎ ((k : ℕ) → k < n → P k) → G ⊎ ((k : ℕ) → k < suc n → P k)
     by (inl found) others = inl found
     by (inr last) (inl found) = inl found
-    by (inr last) (inr others) = inr (λ k below. at last others k below (cases_eq k n))
+    by (inr last) (inr others) = inr (at_limit P n last others)
 
 -- a hart that only waits for its ordered request to be served, or has stopped
 pub record OnlyWaits (state : ModelState) (h : ℕ) : Type 0 where

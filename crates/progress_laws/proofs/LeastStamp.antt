@@ -30,15 +30,15 @@ not_before_less (Some one) less greater before not_before = by (less_of one less
     by false is = refl
     by true is = true_false (sym (less_strict.transitive one less greater is before) ∙ not_before)
 
-module _ (stamp : ℕ → Option Stamp) where
-  -- what holds below a limit and at it
-  at_limit : (P : ℕ → Type 0) (n : ℕ) → P n → ((k : ℕ) → k < n → P k) → (k : ℕ) → k < suc n → P k
-  at_limit P n last others k below = by (cases_eq k n)
-    where
-      by : (k ≡ n) ⊎ (k ≡ n → ⊥) → P k
-      by (inl same) = subst P (sym same) last
-      by (inr apart) = others k (omega (arith, below, apart))
+-- what holds below a limit and at it
+pub at_limit : (P : ℕ → Type 0) (n : ℕ) → P n → ((k : ℕ) → k < n → P k) → (k : ℕ) → k < suc n → P k
+at_limit P n last others k below = by (cases_eq k n)
+  where
+    by : (k ≡ n) ⊎ (k ≡ n → ⊥) → P k
+    by (inl same) = subst P (sym same) last
+    by (inr apart) = others k (omega (arith, below, apart))
 
+module _ (stamp : ℕ → Option Stamp) where
   least_more : (n : ℕ) (last : Option Stamp) → stamp n ≡ last → NoStamp stamp n ⊎ Least stamp n →
       NoStamp stamp (suc n) ⊎ Least stamp (suc n)
   least_more n None is (inl none) = inl (at_limit (λ k. stamp k ≡ None) n is none)

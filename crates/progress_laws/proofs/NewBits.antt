@@ -2,7 +2,7 @@
 use Rattle.std.proofs.Common.{◌≡◌, ◌≢◌, ◌∙◌, ℕ, ◌+◌, Bool, true, false, ◌&&◌, ◌==◌, not, List}
 use Rattle.std.proofs.Common.{Option, None, Some, is_some, option_map, refl, ap, sym, subst, inl, inr, ◌⊎◌}
 use Rattle.std.proofs.Common.{if◌then◌else◌}
-use Rattle.std.proofs.lemmas.Bool.{cases_eq}
+use Rattle.std.proofs.lemmas.Bool.{and_right, cases_eq}
 use Rattle.bus_order.specs.Order.{Request}
 use Rattle.bus_order.proofs.Laws.Queues.{line_of_first_of}
 use Rattle.residency.specs.Cache.{bit_in, has_marks, marked, touched, way_of, write_bit}
@@ -36,11 +36,6 @@ use Rattle.el_model.proofs.Laws.EachHart.{Each, each_but}
 use Rattle.el_model.proofs.Laws.HartParts.{candidate_section}
 use Rattle.el_model.proofs.Laws.Orders.{head_line}
 
-unmet_by : (other live meets : Bool) → meets ≡ false → ((other && live) && meets) ≡ false
-unmet_by true true meets is = is
-unmet_by true false meets is = refl
-unmet_by false live meets is = refl
-
 -- where no other hart's request would conflict with a new bit, the head does not
 pub new_bit_unmet : (state : ModelState) (h : ℕ) (head : Request) (need : Need) (new : Hart) →
     head_of state head.line ≡ Some head → is_wanted state h head.line need ≡ false →
@@ -62,7 +57,7 @@ new_bit_unmet state h head need new first unwanted unwritten = by (not (head.har
         (sym (ap (is_wanted state h head.line) is) ∙ unwanted) first in
         true_false (sym (ap (λ other. other && writes head.need) apart ∙ ap writes asks) ∙ none)
     by true apart Read is Read asks =
-        unmet_by true (is_some new.section) (meets_bit new head.line head.need)
+        and_right (true && is_some new.section) (meets_bit new head.line head.need)
         (ap (meets_bit new head.line) asks ∙ unwritten apart asks is)
 
 -- of a hart: no head meets its section
@@ -106,7 +101,7 @@ bare_bits cache word bare = record {
 bare_unmet : (head : Request) (h : ℕ) (new : Hart) → bit_in Read (way_of new.cache head.line) ≡ false →
     bit_in Write (way_of new.cache head.line) ≡ false → conflicts head h new ≡ false
 bare_unmet head h new unread unwritten =
-    unmet_by (not (head.hart == h)) (is_some new.section) (meets_bit new head.line head.need) (by head.need)
+    and_right (not (head.hart == h) && is_some new.section) (meets_bit new head.line head.need) (by head.need)
   where
     by : (need : Need) → meets_bit new head.line need ≡ false
     by Read = unwritten

@@ -1,8 +1,9 @@
 -- a section that comes to its release commits
-use Rattle.std.proofs.Common.{◌≡◌, ◌∙◌, ◌==◌, ℕ, true, false, List, None, Some, refl, ap, sym, if◌then◌else◌}
+use Rattle.std.proofs.Common.{◌≡◌, ◌∙◌, ◌==◌, ℕ, true, false, List, Some, refl, ap, sym, if◌then◌else◌}
 use Rattle.el_base.specs.declared.config.Config.{Config}
 use Rattle.el_base.specs.declared.events.Event.{Event}
 use Rattle.el_base.specs.declared.events.Kind.TheVariants as kinds
+use Rattle.el_base.proofs.Laws.Cases.{some_none}
 use Rattle.el_base.proofs.Laws.Tests.{other_test}
 use Rattle.elf_image.specs.Program.{Program}
 use Rattle.el_model.specs.InSection.{Commits, by_section_rule, section_rule, section_turn, shown_in}
@@ -24,9 +25,6 @@ live_runs : (program : Program) (config : Config) (events : List Event) (h : ℕ
 live_runs program config events h section live =
     running_status (status_of (after program config events).committed h)
     (λ stopped. some_none (sym live ∙ ((each_hart_waits_for_one program config events h).stopped stopped).no_section))
-  where
-    some_none : Some section ≡ None → ⊥
-    some_none wrong = absurd (cc)
 
 commits_by_rule : (state : ModelState) (h : ℕ) (section : Section) → (section.count == state.config.long) ≡ false →
     is_release (shown_in state h section) h section.word section.old ≡ true → section_rule state h section ≡ Commits

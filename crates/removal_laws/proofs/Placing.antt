@@ -183,15 +183,11 @@ module _ (state : ModelState) (request : Request) (grounds : Grounds state) (ord
       }
 
   -- alone on its line
-  alone_first : (first : Option Request) → first ≡ None → option_or first (Some request) ≡ Some request
-  alone_first None none = refl
-  alone_first (Some found) none = some_none none
-
   pub alone_facing : head_of state request.line ≡ None → Facing (base state request Alone) request
   alone_facing no_head = record {
     mode = grounds.opened.mode;
     below = base_below state request Alone grounds ordering standing;
-    first = first_of_appended_own state.order request ∙ alone_first (head_of state request.line) no_head;
+    first = first_of_appended_own state.order request ∙ ap (λ first. option_or first (Some request)) no_head;
     ordered = own_ordered state request Alone grounds ordering standing;
     messages =
         all_chained (base state request Alone) request.line
@@ -219,7 +215,7 @@ module _ (state : ModelState) (request : Request) (grounds : Grounds state) (ord
               let e : request ≡ found =
               same_Some _ _ (sym mine ∙ ap (ordered_of (base state request Alone)) (sym same) ∙ is) in
               subst (λ r. head_of (base state request Alone) r.line ≡ Some r) e
-              (first_of_appended_own state.order request ∙ alone_first (head_of state request.line) no_head)
+              (first_of_appended_own state.order request ∙ ap (λ first. option_or first (Some request)) no_head)
           by (inr apart) =
               absurd
               (has_head state.order h found

@@ -113,7 +113,8 @@ ServedOrLocked state head obstacle =
     (is_served (serve_past state head obstacle).outcome ≡ true) ⊎ IsLocked state head.line
     (serve_past state head obstacle).outcome
 
-held_is : (held : Option ℕ) (line : ℕ) → is_held held line ≡ true → held ≡ Some line
+-- a hold is of one line
+pub held_is : (held : Option ℕ) (line : ℕ) → is_held held line ≡ true → held ≡ Some line
 held_is None line is = absurd (cc)
 held_is (Some held) line is = ap Some (number_of_test held line is)
 

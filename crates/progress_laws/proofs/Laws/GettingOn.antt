@@ -31,6 +31,7 @@ use Rattle.rv_alu.specs.declared.view.HartStatus.TheVariants.{Exited, Running, T
 use Rattle.rv_alu.specs.declared.view.HartStatus.{HartStatus}
 use Rattle.rv_flat.specs.FlatState.{status_of}
 use Rattle.rv_flat.proofs.Laws.RunsAfter.{running_status}
+use Rattle.removal_laws.proofs.Laws.Promises.{held_is}
 use Rattle.section_laws.specs.Waiting.{OnlyHolds}
 use Rattle.section_laws.proofs.Laws.FreeLines.{has_head}
 use Rattle.section_laws.proofs.Laws.Lengths.{AsMany, first_as_many, next_as_many, runs_exists}
@@ -131,10 +132,6 @@ mail_gets_on state h message others exists mail = record {
 }
 
 -- a hart that holds a line waits for nothing, and steps
-line_held : (held : Option ℕ) (line : ℕ) → is_held held line ≡ true → (l : ℕ) × (held ≡ Some l)
-line_held None line is = absurd (cc)
-line_held (Some l) line is = (l, refl)
-
 pub holds_only : (state : ModelState) (h line : ℕ) → Sound state → (hart_of state h).held_line ≡ Some line →
     has_request state h ≡ false
 holds_only state h line sound is = only (sound h).only_holds
@@ -150,8 +147,8 @@ holder_gets_on state h k line sound same is =
     let test =
     first_passes (λ other. not (other == h) && is_held (hart_of state other).held_line line)
     (numbers_of state) k is in
-    let held = line_held (hart_of state k).held_line line (second_of_both _ _ test) in
-    free_gets_on state k same (held_runs state k held.0 sound held.1) (holds_only state k held.0 sound held.1)
+    let held = held_is (hart_of state k).held_line line (second_of_both _ _ test) in
+    free_gets_on state k same (held_runs state k line sound held) (holds_only state k line sound held)
 
 -- the head of a line that no section retains is served, unless a hart holds the line, which then steps
 served_gets_on : (state : ModelState) (h : ℕ) (request : Request) → h < length state.harts →

@@ -17,6 +17,7 @@ use Rattle.coherence.proofs.Laws.GivenUp.{beyond}
 use Rattle.coherence.proofs.Laws.LineLaws.{as_read, found_bytes, left_cache, read_served, write_served}
 use Rattle.coherence.proofs.Laws.Owners.{letter_is}
 use Rattle.coherence.proofs.Stays.{nothing_given_up}
+use Rattle.el_base.proofs.Laws.Tests.{second_not}
 use Rattle.el_base.specs.declared.outcomes.Need.{Need}
 use Rattle.el_base.specs.declared.outcomes.Need.TheVariants.{Read, Write}
 use Rattle.el_base.proofs.Laws.Cases.{none_some}
@@ -88,12 +89,8 @@ unshared_from from (cache ∷ caches) h line zero none other =
     same_number : (a b : ℕ) → (a == b) ≡ true → a + 0 ≡ b
     same_number a b same = grind (arith, nat_tests)
 unshared_from from (cache ∷ caches) h line (suc k) none other =
-    unshared_from (suc from) caches h line k (later (not (from == h) && is_resident cache.residency line) _ none)
+    unshared_from (suc from) caches h line k (second_not (not (from == h) && is_resident cache.residency line) _ none)
     (λ same. other (omega (arith, same)))
-  where
-    later : (first rest : Bool) → (first || rest) ≡ false → rest ≡ false
-    later true rest none = absurd (cc)
-    later false rest none = none
 
 pub unshared : (caches : List Cached) (h line : ℕ) → others_have caches h line ≡ false → (g : ℕ) → g ≢ h →
     copies_of caches line g ≡ None

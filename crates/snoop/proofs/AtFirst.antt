@@ -2,7 +2,6 @@
 use Rattle.std.proofs.Common.{◌≡◌, ◌∙◌, ◌<◌, ◌≤◌, ℕ, zero, suc, ◌*◌, true, false, [], length, replicate, Option, None}
 use Rattle.std.proofs.Common.{Some, refl, ap, sym, subst, arith}
 use Rattle.std.specs.Prelude.{slice_index_or}
-use Rattle.std.proofs.lemmas.Bool.Decides.{nat_tests}
 use Rattle.std.proofs.lemmas.List.{length-replicate}
 use Rattle.bus_order.specs.Order.{Request, request_of}
 use Rattle.residency.specs.Cache.{has_marks}
@@ -12,12 +11,12 @@ use Rattle.residency.proofs.Laws.WellFormedLemmas.{well_formed-empty_cache}
 use Rattle.residency.proofs.Laws.Unmarked.{unmarked-empty}
 use Rattle.coherence.specs.Caches.{cache_at}
 use Rattle.coherence.specs.Lent.{lent_all}
-use Rattle.coherence.proofs.Laws.Offered.{length-lent, lent_at}
+use Rattle.coherence.proofs.Laws.Offered.{few_harts, length-lent, lent_at}
 use Rattle.el_base.proofs.Laws.Ranges.{ranges}
 use Rattle.el_base.specs.Config.{IsInRange, allows}
 use Rattle.el_base.specs.declared.line.TheConstants.{LINE_BYTES}
 use Rattle.el_base.specs.declared.config.Config.{Config}
-use Rattle.el_base.specs.declared.config.ConfigFault.TheVariants.{Harts, Sets}
+use Rattle.el_base.specs.declared.config.ConfigFault.TheVariants.{Sets}
 use Rattle.el_model.specs.State.{Hart, begin, new_hart}
 use Rattle.elf_image.specs.Program.{Program}
 use Rattle.rv_flat.specs.FlatState.{start}
@@ -99,9 +98,6 @@ shows_first program config bus one_each new = record {
 some_sets : (sets : ℕ) → allows Sets sets ≡ true → 0 < sets
 some_sets zero is = absurd (cc)
 some_sets (suc sets) is = omega arith
-
-few_harts : (harts : ℕ) → allows Harts harts ≡ true → harts ≤ 8
-few_harts harts is = grind (arith, nat_tests)
 
 pub ready_first : (program : Program) (config : Config) (bus : BusState) → IsInRange config →
     IsNew program config bus → IsReady bus

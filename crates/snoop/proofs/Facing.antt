@@ -5,6 +5,7 @@ use Rattle.std.specs.Prelude.{slice_index_or}
 use Rattle.std.proofs.Math.ListN.{drop_of_length-le, get_or-append}
 use Rattle.std.proofs.Math.Seq.{drop-cons, get_or-append_seam}
 use Rattle.std.proofs.lemmas.Bool.{cases_eq, cases_lt}
+use Rattle.el_base.proofs.Laws.Cases.{true_false}
 use Rattle.el_base.proofs.Laws.Tests.{false_between}
 use Rattle.el_model.specs.Conflicts.{conflicts, least_such, meets_bit, told_winner, wins_over}
 use Rattle.bus_order.specs.Order.{Request}
@@ -73,9 +74,6 @@ wins_where_met bus state head h beats ready shows decides met =
     (agent_at bus.agents h).attempt
     ∙ ap (λ agent. wins_of bus.mode head.stamp agent.attempt) (shows.agents h)
     ∙ ap (λ mode. wins_over mode head.stamp (hart_of state h)) shows.mode
-  where
-    true_false : true ≡ false → ⊥
-    true_false same = absurd (cc)
 
 -- the fates of the harts below a number
 pub record FatesBelow (bus : BusState) (head : Request) (number : ℕ) (fates : List fates.Fate) : Type 0 where

@@ -1,6 +1,7 @@
 -- a hart that has no request raises one
 use Rattle.std.proofs.Common.{◌≡◌, ◌≢◌, ◌∙◌, ℕ, ◌<◌, true, length, None, Some, refl, ap, sym, arith, inl, inr}
 use Rattle.std.proofs.lemmas.Bool.{cases_eq}
+use Rattle.std.proofs.lemmas.Option.{same_Some}
 use Rattle.bus_order.specs.Order.{Request, request_of}
 use Rattle.el_base.specs.declared.outcomes.Need.{Need}
 use Rattle.el_model.specs.Plain.{missed_hart}
@@ -55,14 +56,11 @@ ready_raised bus request ready inside none in_memory room = record {
     before h other apart is =
         ap (λ a. a.raised) (sym (agent_other bus.agents request.hart h (raising bus request) apart)) ∙ is
 
-    same : (one other : Request) → Some one ≡ Some other → one ≡ other
-    same one other is = cc
-
     the_one : (h : ℕ) (other : Request) → h ≡ request.hart →
         (agent_at (with_agent bus.agents request.hart (raising bus request)) h).raised ≡ Some other →
         request ≡ other
     the_one h other own is =
-        same request other
+        same_Some request other
         (sym (ap (λ a. a.raised) (ap (agent_at (with_agent bus.agents request.hart (raising bus request))) own
         ∙ agent_same bus.agents request.hart (raising bus request) inside)) ∙ is)
 

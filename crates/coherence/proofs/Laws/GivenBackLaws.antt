@@ -19,7 +19,7 @@ use Rattle.coherence.proofs.Laws.GivenUp.{beyond}
 use Rattle.coherence.proofs.KeptLaws.{coherent_same_copies, same_copies_at}
 use Rattle.coherence.proofs.Laws.LineLaws.{same_line, stored}
 use Rattle.coherence.proofs.Laws.Owners.{copy_is}
-use Rattle.moesi.specs.Letters.{may_write}
+use Rattle.moesi.specs.Letters.{may_read, may_write}
 use Rattle.moesi.specs.declared.letter.Letter.TheVariants.{M}
 use Rattle.el_base.proofs.Laws.Cases.{none_some}
 
@@ -132,6 +132,15 @@ pub writable_there : (cached : Cached) (line : ℕ) → may_write (letter_of cac
 writable_there cached line may = by (way_of cached.residency line) may
   where
     by : (way : Option Way) → may_write (letter_in way) ≡ true → is_some way ≡ true
+    by None is = absurd (cc)
+    by (Some way) is = refl
+
+-- and one that may be read
+pub readable_there : (cache : List (List Way)) (line : ℕ) → may_read (letter_of cache line) ≡ true →
+    is_resident cache line ≡ true
+readable_there cache line may = by (way_of cache line) may
+  where
+    by : (way : Option Way) → may_read (letter_in way) ≡ true → is_some way ≡ true
     by None is = absurd (cc)
     by (Some way) is = refl
 

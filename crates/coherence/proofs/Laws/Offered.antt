@@ -2,10 +2,11 @@
 -- cache that is given back to it.
 use Rattle.std.proofs.Common.{◌≡◌, ◌≢◌, ◌∙◌, ◌≤◌, ◌<◌, ◌*◌, ℕ, zero, suc, zero-add, arith, if◌then◌else◌, List, [], ◌∷◌}
 use Rattle.std.proofs.Common.{length, map, replicate}
-use Rattle.std.proofs.Common.{slice_index, refl, ap, sym, subst, inl, inr}
+use Rattle.std.proofs.Common.{slice_index, true, refl, ap, sym, subst, inl, inr}
 use Rattle.std.specs.List.{range_with_len}
 use Rattle.std.specs.Prelude.{slice_set}
 use Rattle.std.proofs.lemmas.Bool.{cases_eq}
+use Rattle.std.proofs.lemmas.Bool.Decides.{nat_tests}
 use Rattle.std.proofs.lemmas.List.{ext_get_or, get_or-replicate, get_or-set_other, get_or-set_same, length-map}
 use Rattle.std.proofs.lemmas.List.{length-replicate, length-set, map-set}
 use Rattle.std.proofs.lemmas.List.FromFn.{get_or-map-range_with_len, length-map-range_with_len}
@@ -16,6 +17,8 @@ use Rattle.coherence.specs.Caches.{cache_at, no_cache}
 use Rattle.coherence.specs.Changed.{IsReplacedAt}
 use Rattle.coherence.specs.Lent.{IsLentTo, IsReplacedIn, LeavesHolds, LeavesOwner, Offers, lent_all, no_slotted}
 use Rattle.coherence.specs.Lent.{slotted_at}
+use Rattle.el_base.specs.Config.{allows}
+use Rattle.el_base.specs.declared.config.ConfigFault.TheVariants.{Harts}
 use Rattle.line_pool.specs.declared.slot.Slot.{Slot}
 use Rattle.line_pool.specs.Calls.{IsMade}
 use Rattle.line_pool.specs.Keeping.{Keeps, times_among}
@@ -233,6 +236,10 @@ caches-first pool harts ways sets =
         ∙ ap (lent pool) (first_at harts ways sets h within)
         ∙ lent-empty pool ways sets h
         ∙ sym (get_or-replicate harts h (empty_cached ways sets) no_cache within)
+
+-- a configuration has 8 harts at most
+pub few_harts : (harts : ℕ) → allows Harts harts ≡ true → harts ≤ 8
+few_harts harts is = grind (arith, nat_tests)
 
 pub lent-first : (pool : Pooled) (harts ways sets : ℕ) → harts ≤ 8 → Offers pool harts (sets * ways)
     → IsLentTo pool (first_caches harts ways sets)

@@ -1,6 +1,7 @@
 -- who has a live section: what the bus keeps of it tells what the definition says
 use Rattle.std.proofs.Common.{◌≡◌, ◌∙◌, ℕ, ◌≤◌, ◌==◌, ◌&&◌, not, Bool, true, false, List, None, is_some, refl, ap, sym}
 use Rattle.std.proofs.Common.{arith}
+use Rattle.std.proofs.lemmas.Bool.{not-true}
 use Rattle.std.proofs.lemmas.Bool.Decides.{nat_tests}
 use Rattle.std.proofs.Math.Bool.{and-false, and-true}
 use Rattle.residency.specs.Cache.{cleared, has_marks}
@@ -10,7 +11,7 @@ use Rattle.el_model.specs.Plain.{armed_count}
 use Rattle.el_model.specs.State.{Hart, ModelState, hart_of, is_live, new_hart}
 use Rattle.snoop.specs.Agent.{agent_at}
 use Rattle.snoop.specs.Shows.{BusState, Shows, lives, lives_at}
-use Rattle.el_base.proofs.Laws.Tests.{number_of_test}
+use Rattle.el_base.proofs.Laws.Tests.{number_of_test, second_of_both}
 
 -- where a hart is not armed, some line has a bit exactly where it has a live section
 pub lives_unarmed : (cache : List (List Way)) (count : ℕ) → count ≡ 0 → lives cache count ≡ has_marks cache
@@ -61,21 +62,13 @@ tells_cleared hart cache section armed is = record {
 -- a hart with a live section is not armed
 pub live_unarmed : (hart : Hart) → TellsSection hart → is_some hart.section ≡ true → armed_count hart.armed ≡ 0
 live_unarmed hart told live =
-    number_of_test (armed_count hart.armed) 0 (second (has_marks hart.cache) _ (sym told.live ∙ live))
-  where
-    second : (a b : Bool) → (a && b) ≡ true → b ≡ true
-    second true b is = is
-    second false b is = absurd (cc)
+    number_of_test (armed_count hart.armed) 0 (second_of_both (has_marks hart.cache) _ (sym told.live ∙ live))
 
 -- and an armed one has none
 pub armed_lifeless : (hart : Hart) → TellsSection hart → is_some hart.armed ≡ true → is_some hart.section ≡ false
 armed_lifeless hart told armed =
-    told.live ∙ ap (λ none. has_marks hart.cache && none) (not_true _ (sym told.arms ∙ armed))
+    told.live ∙ ap (λ none. has_marks hart.cache && none) (not-true _ (sym told.arms ∙ armed))
     ∙ and-false (has_marks hart.cache)
-  where
-    not_true : (b : Bool) → not b ≡ true → b ≡ false
-    not_true true is = absurd (cc)
-    not_true false is = refl
 
 -- the test that the bus makes
 pub lives_shown : (bus : BusState) (state : ModelState) (h : ℕ) → Shows bus state → lives_at bus h ≡ is_live state h

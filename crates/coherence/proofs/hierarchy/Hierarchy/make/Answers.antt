@@ -1,18 +1,12 @@
-use Rattle.std.proofs.Common.{◌≡◌, ◌∙◌, ◌*◌, ◌/◌, ◌%◌, ◌≤◌, ℕ, true, ap, arith, length, map, subst, sym}
+use Rattle.std.proofs.Common.{◌≡◌, ◌∙◌, ◌*◌, ◌/◌, ◌%◌, ℕ, ap, arith, length, map, subst, sym}
 use Rattle.std.specs.List.{range_with_len}
 use Rattle.std.proofs.lemmas.List.FromFn.{length-map-range_with_len}
-use Rattle.std.proofs.lemmas.Bool.Decides.{nat_tests}
 use Rattle.coherence.specs.Beginning.{line_in, lines_at_first}
 use Rattle.coherence.specs.Lent.{IsLentTo, lent_all}
 use Rattle.coherence.proofs.AtFirst.{first_coherent}
-use Rattle.coherence.proofs.Laws.Offered.{caches-first, lent-first}
+use Rattle.coherence.proofs.Laws.Offered.{caches-first, few_harts, lent-first}
 use Rattle.coherence.proofs.hierarchy.Hierarchy.make.Goals as goal
-use Rattle.el_base.specs.Config.{allows}
-use Rattle.el_base.specs.declared.config.ConfigFault.TheVariants.{Harts}
 use Rattle.el_base.proofs.Laws.Ranges.{ranges}
-
-few_harts : (harts : ℕ) → allows Harts harts ≡ true → harts ≤ 8
-few_harts harts is = grind (arith, nat_tests)
 
 pub returns-clause-caches : goal.returns-clause-caches
 returns-clause-caches c pool =

@@ -1,10 +1,11 @@
 -- what a run over a cache promises of plain shared memory
-use Rattle.std.specs.Prelude.{ℕ, ◌≡◌, ◌≢◌, ◌≤◌, false, true, List, Option, None, Some}
+use Rattle.std.specs.Prelude.{ℕ, ◌≡◌, ◌≢◌, ◌≤◌, false, true, List, length, Option, None, Some}
 use Rattle.residency.specs.Cache as caches
 use Rattle.residency.specs.Cache.{has_marks}
 use Rattle.cache_sets.specs.Cached.{Cached, cached_byte}
 use Rattle.residency.specs.Residency.{Way}
 use Rattle.residency.specs.WellFormed.{IsWellFormed}
+use Rattle.coherence.specs.Beginning.{LiesWhere}
 use Rattle.coherence.specs.Caches.{cache_at}
 use Rattle.coherence.specs.GivenBack.{copies_with}
 use Rattle.coherence.specs.Served.{Copies, HasLine}
@@ -25,7 +26,7 @@ use Rattle.rv_flat.specs.FlatState.{FlatState, room_of, span_of, view_of}
 use Rattle.rv_flat.specs.Memory.{byte_in}
 use Rattle.rv_flat.specs.Step.{action_of, applied, execution_of}
 use Rattle.cached_step.specs.CacheRun.{HasRun, permitted}
-use Rattle.cached_step.specs.Memory.{IsPlaced, TellsMemory}
+use Rattle.cached_step.specs.Memory.{TellsMemory}
 
 -- how the rule of a step shows in how its action ends: a rule that runs it in no need, and one that
 -- misses in the need of that line
@@ -67,8 +68,8 @@ CachesTellMemoryAfter =
 -- the line that an action touches lies in memory
 abbrev pub TouchedLinesAreThere : Type 0
 TouchedLinesAreThere = (copies : Copies) (flat : FlatState) (room : ℕ) (action : Action) (touch : Touch) →
-    IsPlaced copies flat → IsInPlace (span_of flat) room action → touch_of (footprint action) ≡ Some touch →
-    HasLine copies touch.line
+    LiesWhere copies.first (length copies.lines) flat → IsInPlace (span_of flat) room action →
+    touch_of (footprint action) ≡ Some touch → HasLine copies touch.line
 
 -- a cache stays well formed, and has marks where it had them
 pub record StaysInForm (old new : Cached) : Type 0 where

@@ -1,15 +1,15 @@
 -- bytes of memory, by the lines that they lie in
 use Rattle.std.proofs.Common.{◌≡◌, ◌∙◌, ℕ, ◌+◌, ◌-◌, ◌*◌, ◌/◌, ◌%◌, ◌≤◌, drop, take, Option, Some, None, ap, inl, inr}
-use Rattle.std.proofs.Common.{arith}
+use Rattle.std.proofs.Common.{arith, length}
 use Rattle.std.specs.Prelude.{IfSome, IsNone, slice_index, ◌↔◌}
 use Rattle.std.proofs.lemmas.Bool.{cases_lt}
 use Rattle.std.proofs.lemmas.List.{drop-drop, drop-take, get_or-drop, get_or-take, take-take}
-use Rattle.coherence.specs.Beginning.{line_of}
+use Rattle.coherence.specs.Beginning.{LiesWhere, line_of}
 use Rattle.el_base.specs.Line.{line_number}
 use Rattle.el_base.specs.declared.line.TheConstants.{LINE_BYTES}
 use Rattle.rv_flat.specs.FlatState.{FlatState}
 use Rattle.rv_flat.specs.Memory.{byte_in, piece_of}
-use Rattle.snoop.specs.Shows.{Holding, LiesIn, LiesWhere}
+use Rattle.snoop.specs.Shows.{Holding, LiesIn}
 
 -- the place of an address in memory is that of its line, and its place in it
 placed : (first base address : ℕ) → first * LINE_BYTES ≡ base → first ≤ line_number address →
@@ -40,7 +40,8 @@ same_piece state first address len is from fits =
     (drop-drop at place state.bytes ∙ ap (λ n. drop n state.bytes) (placed first state.base address is from))
 
 -- the byte that the bus tells is that of committed memory
-pub told_byte : (copies : Holding) (state : FlatState) (address : ℕ) (told : Option ℕ) → LiesWhere copies state →
+pub told_byte : (copies : Holding) (state : FlatState) (address : ℕ) (told : Option ℕ) →
+    LiesWhere copies.first (length copies.lines) state →
     (IsNone told ↔ (LiesIn copies (line_number address) → ⊥)) →
     IfSome told (λ byte. byte ≡ slice_index (line_of state (line_number address)) (address % LINE_BYTES)) →
     IfSome told (λ byte. byte ≡ byte_in state.base state.bytes address)

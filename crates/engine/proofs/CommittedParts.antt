@@ -15,12 +15,11 @@ use Rattle.cache_sets.specs.Cached.{Cached, Copy, bytes_of, copy_in}
 use Rattle.cache_sets.specs.Slotted.{Slotted, lent}
 use Rattle.residency.specs.Residency.{Way}
 use Rattle.residency.specs.WellFormed.{IsWellFormed}
-use Rattle.cached_step.specs.Memory.{IsPlaced}
 use Rattle.coherence.proofs.Laws.GivenBackLaws.{copy_tells, kept_bytes, tells_after, writable_there}
 use Rattle.coherence.proofs.Laws.Offered.{lent_at}
 use Rattle.coherence.proofs.Laws.Owners.{copy_is}
 use Rattle.coherence.specs.Lent.{slotted_at}
-use Rattle.coherence.specs.Beginning.{line_of}
+use Rattle.coherence.specs.Beginning.{LiesWhere, line_of}
 use Rattle.coherence.specs.Caches.{behind_of, cache_at, copies_of}
 use Rattle.coherence.specs.GivenBack.{copies_with, IsCopyBack, Stored, bytes_back}
 use Rattle.coherence.specs.GivenBack as given_back_of
@@ -164,7 +163,7 @@ owned from h line reached bit =
 -- the cache of a hart before and after, the bytes of memory before and after, and what is held
 module _ (copies : Copies) (h : ℕ) (cache : Cached) (old done : FlatState) (word : ℕ) (view : HartView)
     (hold : List Entry)
-    (tells : TellsOf copies (line_of old)) (lies : IsPlaced copies old) (effects : HasEffect old done h word view hold)
+    (tells : TellsOf copies (line_of old)) (lies : LiesWhere copies.first (length copies.lines) old) (effects : HasEffect old done h word view hold)
     (commits_in : HasCommitted (cache_at copies.caches h) cache hold)
     (marked : HoldsMarked (cache_at copies.caches h).residency hold)
     (owns : (line : ℕ) → write_bit (cache_at copies.caches h).residency line ≡ true → may_write (letter_of
@@ -210,7 +209,7 @@ module _ (copies : Copies) (h : ℕ) (cache : Cached) (old done : FlatState) (wo
   whole line there =
       length-take-le 64 (drop ((line - done.base / LINE_BYTES) * 64) done.bytes)
       (let left = length-drop ((line - done.base / LINE_BYTES) * 64) done.bytes in
-      omega (arith, left, lies.first, lies.size, effects.base, effects.size, there.from, there.below))
+      omega (arith, left, lies.first, lies.lines, effects.base, effects.size, there.from, there.below))
 
   held_line : (line : ℕ) → HasLine copies line → holds hold line ≡ true → line_of done line ≡ bytes_of cache line
   held_line line there is =

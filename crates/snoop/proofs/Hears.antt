@@ -2,16 +2,19 @@
 use Rattle.std.proofs.Common.{◌≡◌, ◌≢◌, ◌∙◌, ℕ, ◌<◌, ◌≤◌, ◌==◌, ◌&&◌, not, Bool, true, false, List, length, Option}
 use Rattle.std.proofs.Common.{Some, None, refl}
 use Rattle.std.proofs.Common.{ap, sym, subst, inl, inr, arith, if◌then◌else◌}
+use Rattle.std.proofs.Math.Bool.{and-false, and-true}
 use Rattle.std.proofs.lemmas.Bool.{cases_eq, cases_lt}
 use Rattle.std.proofs.lemmas.List.{length-set}
 use Rattle.std.specs.Prelude.{IfSome}
 use Rattle.bus_order.specs.Order.{IsOneEach, Request, request_of}
 use Rattle.residency.specs.Cache.{cleared}
 use Rattle.residency.specs.WellFormed.{IsWellFormed}
+use Rattle.coherence.specs.Beginning.{LiesWhere}
 use Rattle.coherence.specs.Lent.{slotted_at}
 use Rattle.defer_list.specs.HartSet.{has, included}
 use Rattle.el_base.specs.Losers.{beaten_by}
 use Rattle.el_base.specs.declared.losers.Losers.{Losers}
+use Rattle.el_base.proofs.Laws.Tests.{first_of_both}
 use Rattle.el_base.proofs.Laws.MadeLosers.{beaten_by-beyond, beaten_by-losers_of}
 use Rattle.el_base.proofs.Laws.SameLosers.{same_losers}
 use Rattle.el_model.specs.Conflicts.{retains, stamp_in}
@@ -26,7 +29,7 @@ use Rattle.mail.specs.Mailbox.{Probe, posted}
 use Rattle.snoop.specs.Agent.{Agent, agent_at, agent_of, agent_posted, with_agent}
 use Rattle.snoop.specs.Delivering.{Forwards, IsForwarded, IsLostTo, agent_heard, asks_on}
 use Rattle.snoop.specs.Settled.{in_removal}
-use Rattle.snoop.specs.Shows.{IsReady, IsUnmarked, BusState, LiesIn, LiesWhere, Shows, has_room_in}
+use Rattle.snoop.specs.Shows.{Holding, IsReady, IsUnmarked, BusState, LiesIn, Shows, has_room_in}
 use Rattle.snoop.proofs.AfterFate.{beaten_agent, beaten_cache, beaten_tells, beaten_upstream}
 use Rattle.snoop.proofs.Laws.Living.{TellsSection, live_unarmed, tells, tells_yet}
 use Rattle.snoop.proofs.Lent.{ClearsOne, clears_one, lies_in_yet, one_room, one_unmarked, one_well_formed}
@@ -98,11 +101,8 @@ loser_unarmed : (bus : BusState) (state : ModelState) (h : ℕ) (request : Optio
 loser_unarmed bus state h None shows loses = absurd (cc)
 loser_unarmed bus state h (Some request) shows loses =
     live_unarmed (hart_of state h) (tells shows h)
-    (loser_lives (head_of state request.line) h (hart_of state h) (first (retains state h request.line) _ loses))
-  where
-    first : (a b : Bool) → (a && b) ≡ true → a ≡ true
-    first true b is = refl
-    first false b is = absurd (cc)
+    (loser_lives (head_of state request.line) h (hart_of state h)
+    (first_of_both (retains state h request.line) _ loses))
 
 lost_is_shown : (bus new : BusState) (state : ModelState) (h origin : ℕ) (request : Option Request) → Shows bus state →
     h < length bus.agents → armed_count (armed_of state h) ≡ 0 → IsLostTo h origin request bus new →
@@ -212,11 +212,7 @@ one_loser losers h origin low is =
 forward_test : (state : ModelState) (h origin : ℕ) (request : Option Request) (g : ℕ) →
     forwards_on state h origin request g
     ≡ ((not (g == origin) && has (hart_of state h).upstream g) && asks_on state.order h request)
-forward_test state h origin None g = sym (and_false (not (g == origin) && has (hart_of state h).upstream g))
-  where
-    and_false : (b : Bool) → (b && false) ≡ false
-    and_false true = refl
-    and_false false = refl
+forward_test state h origin None g = sym (and-false (not (g == origin) && has (hart_of state h).upstream g))
 forward_test state h origin (Some request) g = refl
 
 forwarded_agents : (asks : Bool) (upstream : List ℕ) (origin : ℕ) (old new : List Agent) →
@@ -228,22 +224,14 @@ forwarded_agents true upstream origin old new each = (
   each.count,
   λ g below. each.each g below
       ∙ ap (λ test. if test then agent_posted (Probe origin) (agent_at old g) else agent_at old g)
-      (sym (and_true (not (g == origin) && has upstream g))),
+      (sym (and-true (not (g == origin) && has upstream g))),
 )
-  where
-    and_true : (b : Bool) → (b && true) ≡ b
-    and_true true = refl
-    and_true false = refl
 forwarded_agents false upstream origin old new same = (
   ap length same,
   λ g below. ap (λ agents. agent_at agents g) same
       ∙ ap (λ test. if test then agent_posted (Probe origin) (agent_at old g) else agent_at old g)
-      (sym (and_none (not (g == origin) && has upstream g))),
+      (sym (and-false (not (g == origin) && has upstream g))),
 )
-  where
-    and_none : (b : Bool) → (b && false) ≡ false
-    and_none true = refl
-    and_none false = refl
 
 chosen_agent : (test : Bool) (origin : ℕ) (hart : Hart) →
     (if test then agent_posted (Probe origin) (agent_of hart) else agent_of hart)
@@ -286,7 +274,9 @@ forward_shows bus new before told h origin request shows order upstream forward 
           tells_yet (hart_of told g) (forwarded before h origin request g (hart_of told g))
           (chosen_kept (λ hart. hart.section) test origin (hart_of told g) refl)
           (chosen_kept (λ hart. hart.armed) test origin (hart_of told g) refl) posts (tells shows g);
-      memory = subst (λ copies. LiesWhere copies told.committed) (sym forward.copies) shows.memory;
+      memory =
+          subst (λ (copies : Holding). LiesWhere copies.first (length copies.lines) told.committed)
+          (sym forward.copies) shows.memory;
     }))
   where
     same_test : (g : ℕ) → ((not (g == origin) && has (agent_at bus.agents h).upstream g) && asks_on bus.order h

@@ -4,6 +4,7 @@ use Rattle.std.proofs.Common.{refl, ap, sym, subst, inl, inr, arith}
 use Rattle.std.specs.Prelude.{slice_set}
 use Rattle.std.proofs.lemmas.Bool.{cases_eq, cases_lt}
 use Rattle.std.proofs.lemmas.List.{get_or-set_same, get_or-set_other, length-set}
+use Rattle.coherence.specs.Beginning.{LiesWhere}
 use Rattle.coherence.specs.Lent.{slotted_at}
 use Rattle.el_base.specs.declared.line.TheConstants.{LINE_BYTES}
 use Rattle.el_model.specs.Attempts.{close_attempt, closed_clock}
@@ -17,12 +18,12 @@ use Rattle.snoop.proofs.Laws.Living.{TellsSection, tells, tells_nothing, tells_y
 use Rattle.snoop.specs.Agent.{Agent, agent_at, agent_closed, agent_of, clock_after, new_agent, with_agent}
 use Rattle.rv_flat.specs.FlatState.{FlatState}
 use Rattle.snoop.specs.LettingGo.{KeepsBytes, with_committed}
-use Rattle.snoop.specs.Shows.{Holding, BusState, LiesWhere, Shows}
+use Rattle.snoop.specs.Shows.{Holding, BusState, Shows}
 use Rattle.stamp.specs.Stamps.{Stamp}
 
 -- main memory that has not moved lies where it did
 pub lies_yet : (old new : Holding) (flat : FlatState) → new.first ≡ old.first → length new.lines ≡ length old.lines →
-    LiesWhere old flat → LiesWhere new flat
+    LiesWhere old.first (length old.lines) flat → LiesWhere new.first (length new.lines) flat
 lies_yet old new flat first lines lies = record {
   first = ap (λ n. n * LINE_BYTES) first ∙ lies.first;
   lines = ap (λ n. n * LINE_BYTES) lines ∙ lies.lines;
@@ -137,7 +138,7 @@ pub record ShowsEach (bus new : BusState) (state : ModelState) (becomes : ℕ �
   pub caches : (h : ℕ) → h < length bus.agents →
       (slotted_at new.copies.caches h).residency ≡ (becomes h (hart_of state h)).cache
   pub told : (h : ℕ) → h < length bus.agents → TellsSection (becomes h (hart_of state h))
-  pub memory : LiesWhere new.copies state.committed
+  pub memory : LiesWhere new.copies.first (length new.copies.lines) state.committed
 
 pub shows_each : (bus new : BusState) (state : ModelState) (becomes : ℕ → Hart → Hart) → Shows bus state →
     ShowsEach bus new state becomes → Shows new (record (each_hart state becomes) { order = new.order })

@@ -1,16 +1,18 @@
 -- what a caller gives back of a cache that was lent to it, so that the bus is ready again, and what the bus shows then
-use Rattle.std.specs.Prelude.{ℕ, ◌≡◌, false, true, Some, is_some, slice_set}
+use Rattle.std.specs.Prelude.{ℕ, ◌≡◌, false, true, Some, is_some, length}
+use Rattle.std.specs.Prelude.{slice_set}
 use Rattle.bus_order.specs.Order.{Request, request_of}
 use Rattle.residency.specs.Cache.{has_marks, room_of}
 use Rattle.cache_sets.specs.Slotted.{Slotted}
 use Rattle.residency.specs.WellFormed.{IsWellFormed}
+use Rattle.coherence.specs.Beginning.{LiesWhere}
 use Rattle.coherence.specs.Lent.{slotted_at}
 use Rattle.el_base.specs.declared.config.Mode.TheVariants.{Plain}
 use Rattle.el_model.specs.Plain.{armed_count}
 use Rattle.el_model.specs.State.{Hart, ModelState, armed_of, hart_of, with_hart}
 use Rattle.rv_flat.specs.FlatState.{FlatState}
 use Rattle.snoop.specs.Agent.{agent_at, agent_of}
-use Rattle.snoop.specs.Shows.{BusState, LiesWhere, lives}
+use Rattle.snoop.specs.Shows.{BusState, lives}
 
 -- another cache in the place of a hart's
 abbrev pub returned : BusState → ℕ → Slotted → BusState
@@ -38,7 +40,7 @@ pub record IsReturnedAs (bus : BusState) (state : ModelState) (h : ℕ) (cache :
   pub residency : hart.cache ≡ cache.residency
   pub live : is_some hart.section ≡ lives cache.residency (armed_count hart.armed)
   pub armed : is_some hart.armed ≡ is_some (armed_of state h)
-  pub memory : LiesWhere bus.copies committed
+  pub memory : LiesWhere bus.copies.first (length bus.copies.lines) committed
 
 -- the state in which a hart has become another, and this is committed
 abbrev pub state_with : ModelState → ℕ → Hart → FlatState → ModelState

@@ -1,22 +1,21 @@
 -- what the bus keeps, and the state of the machine's definition that it shows
-use Rattle.std.specs.Prelude.{ℕ, ◌≡◌, ◌<◌, ◌≤◌, ◌*◌, ◌==◌, ◌&&◌, Bool, false, true, not, List, None, Some, is_some}
+use Rattle.std.specs.Prelude.{ℕ, ◌≡◌, ◌<◌, ◌≤◌, ◌==◌, ◌&&◌, Bool, false, true, not, List, None, Some, is_some}
 use Rattle.std.specs.Prelude.{length}
 use Rattle.bus_order.specs.Order.{IsOneEach, Request, request_of}
 use Rattle.residency.specs.Cache.{has_marks, room_of}
 use Rattle.residency.specs.Residency.{Way}
 use Rattle.residency.specs.WellFormed.{IsWellFormed}
 use Rattle.cache_sets.specs.Slotted.{Slotted}
+use Rattle.coherence.specs.Beginning.{LiesWhere}
 use Rattle.coherence.specs.Caches.{IsInMemory}
 use Rattle.coherence.specs.Lent.{IsLentTo, lent_all, slotted_at}
 use Rattle.coherence.specs.Served.{Copies, TellsOf, caches_of}
 use Rattle.coherence.specs.declared.hierarchy.Hierarchy as hierarchies
 use Rattle.el_base.specs.declared.config.Mode.{Mode}
 use Rattle.el_base.specs.declared.config.Mode.TheVariants.{Plain}
-use Rattle.el_base.specs.declared.line.TheConstants.{LINE_BYTES}
 use Rattle.el_model.specs.Plain.{armed_count}
 use Rattle.el_model.specs.State.{ModelState, armed_of, cache_of, hart_of, is_live}
 use Rattle.line_pool.specs.Pooled.{Pooled}
-use Rattle.rv_flat.specs.FlatState.{FlatState}
 use Rattle.snoop.specs.Agent.{Agent, agent_at, agent_of}
 use Rattle.snoop.specs.declared.bus.Bus as buses
 
@@ -57,11 +56,6 @@ abbrev pub bus_state : buses.Bus → BusState
 bus_state bus =
     record { mode = bus.mode; copies = holding_of bus.hierarchy; agents = bus.agents.items; order = bus.order }
 
--- main memory lies where the state's memory does, and is as long
-pub record LiesWhere (copies : Holding) (flat : FlatState) : Type 0 where
-  pub first : copies.first * LINE_BYTES ≡ flat.base
-  pub lines : length copies.lines * LINE_BYTES ≡ length flat.bytes
-
 -- whether a hart with this cache and this noted count has a live section: some line has a bit,
 -- and that is no armed section's
 abbrev pub lives : List (List Way) → ℕ → Bool
@@ -82,7 +76,7 @@ pub record Shows (bus : BusState) (state : ModelState) : Type 0 where
   pub live : (h : ℕ) → is_live state h ≡ lives (cache_of state h) (armed_count (armed_of state h))
   pub arms : (h : ℕ) → is_some (armed_of state h) ≡ not (armed_count (armed_of state h) == 0)
   pub order : bus.order ≡ state.order
-  pub memory : LiesWhere bus.copies state.committed
+  pub memory : LiesWhere bus.copies.first (length bus.copies.lines) state.committed
 
 -- a request can be served once it is the head of its line and nothing is in its way: its hart is there, its line lies
 -- in memory, and the hart's cache has room for it

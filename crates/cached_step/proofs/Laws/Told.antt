@@ -1,20 +1,19 @@
 -- caches and main memory tell the bytes of memory, before and after an action ran over a cache
 use Rattle.std.proofs.Common.{◌≡◌, ◌≢◌, ◌∙◌, ◌⊎◌, ℕ, ◌+◌, ◌-◌, ◌*◌, ◌/◌, ◌%◌, ◌≤◌, ◌<◌, true, inl, inr, List, length}
-use Rattle.std.proofs.Common.{drop, Option, None, Some, is_some, ap}
+use Rattle.std.proofs.Common.{drop, Option, None, Some, ap}
 use Rattle.std.proofs.Common.{arith, refl, sym, subst}
 use Rattle.std.specs.Option.{option_map_or}
 use Rattle.std.specs.Prelude.{IfSome, slice_index}
 use Rattle.std.proofs.lemmas.Bool.{cases_eq, cases_lt, eq-eqb, ne_eqb}
 use Rattle.std.proofs.lemmas.List.{get_or-drop, get_or-take}
-use Rattle.residency.specs.Cache.{is_resident, letter_in, letter_of, way_of}
+use Rattle.residency.specs.Cache.{is_resident}
 use Rattle.cache_sets.specs.Cached.{Cached, cached_byte}
-use Rattle.residency.specs.Residency.{Way}
-use Rattle.coherence.specs.Beginning.{line_at}
+use Rattle.coherence.specs.Beginning.{LiesWhere, line_at}
 use Rattle.coherence.specs.Caches.{cache_at}
 use Rattle.coherence.specs.GivenBack.{bytes_with, copies_with}
 use Rattle.coherence.specs.Served.{Copies, HasLine, TellsOf}
 use Rattle.coherence.proofs.Laws.GivenBackLaws.{copy_tells, tells_same_bytes, tells_same_copies, tells_stored}
-use Rattle.coherence.proofs.Laws.GivenBackLaws.{writable_there}
+use Rattle.coherence.proofs.Laws.GivenBackLaws.{readable_there, writable_there}
 use Rattle.core_step.specs.Run.{lacking, refused}
 use Rattle.core_step.proofs.Laws.Runs.{is_permitted, performed}
 use Rattle.el_base.specs.Line.{line_number}
@@ -22,7 +21,6 @@ use Rattle.el_base.specs.declared.outcomes.Need.{Need}
 use Rattle.el_base.specs.declared.outcomes.Need.TheVariants as needs
 use Rattle.el_model.specs.Upcoming.{Touch, touch_of}
 use Rattle.elf_image.specs.Program.{code_word}
-use Rattle.moesi.specs.Letters.{may_read}
 use Rattle.rv_alu.specs.Action.{action_at, insn_action_of}
 use Rattle.rv_alu.specs.Execution.{Store, insn_touched, perform, store_in, touched}
 use Rattle.rv_alu.specs.Footprint.{AgreeOn, IsInPlace, IsPiece, IsStoreIn, footprint}
@@ -38,15 +36,15 @@ use Rattle.rv_flat.proofs.Laws.StepLaws.{length-stored_by}
 use Rattle.rv_word.specs.Decoding.{decoded}
 use Rattle.rv_word.specs.declared.insn.Insn.{Insn}
 use Rattle.cached_step.specs.CacheRun.{HasRun, line_after, permitted}
-use Rattle.cached_step.specs.Memory.{IsPlaced, TellsMemory}
+use Rattle.cached_step.specs.Memory.{TellsMemory}
 use Rattle.cached_step.proofs.Windows.{put-before, put-behind, put-inside}
 
 -- the line of a piece of memory lies there
-piece_line : (copies : Copies) (flat : FlatState) (address len : ℕ) → IsPlaced copies flat →
+piece_line : (copies : Copies) (flat : FlatState) (address len : ℕ) → LiesWhere copies.first (length copies.lines) flat →
     IsPiece (span_of flat) address len → HasLine copies (line_number address)
 piece_line copies flat address len placed piece =
     let first : copies.first * 64 ≡ flat.base = placed.first in
-    let size : length copies.lines * 64 ≡ length flat.bytes = placed.size in
+    let size : length copies.lines * 64 ≡ length flat.bytes = placed.lines in
     let low : flat.base ≤ address = piece.from_base in
     let some : 1 ≤ len = piece.some in
     let high : address + len ≤ flat.base + length flat.bytes = piece.before_end in
@@ -59,7 +57,7 @@ touch_line copies line need touch is there =
     subst (HasLine copies) (ap (λ (t : Option Touch). option_map_or (λ s. s.line) t 0) is) there
 
 pub touched_there : (copies : Copies) (flat : FlatState) (room : ℕ) (action : Action) (touch : Touch) →
-    IsPlaced copies flat → IsInPlace (span_of flat) room action → touch_of (footprint action) ≡ Some touch →
+    LiesWhere copies.first (length copies.lines) flat → IsInPlace (span_of flat) room action → touch_of (footprint action) ≡ Some touch →
     HasLine copies touch.line
 touched_there copies flat room (actions.Append address len) touch placed there is =
     touch_line copies _ _ touch is (piece_line copies flat address len placed there.0)
@@ -74,15 +72,6 @@ touched_there copies flat room (actions.StoreConditional rd address value) touch
 touched_there copies flat room (actions.Amo op rd address source) touch placed there is =
     touch_line copies _ _ touch is (piece_line copies flat address 4 placed there)
 touched_there copies flat room _ touch placed there is = absurd (cc)
-
--- a line that may be read is there
-readable_there : (cache : Cached) (line : ℕ) → may_read (letter_of cache.residency line) ≡ true →
-    is_resident cache.residency line ≡ true
-readable_there cache line may = by (way_of cache.residency line) may
-  where
-    by : (way : Option Way) → may_read (letter_in way) ≡ true → is_some way ≡ true
-    by None is = absurd (cc)
-    by (Some way) is = refl
 
 -- a byte of memory, in a cache that has its line
 pub byte_told : (copies : Copies) (flat : FlatState) (h address : ℕ) → TellsMemory copies flat → flat.base ≤ address →
@@ -118,7 +107,7 @@ read_agrees : (copies : Copies) (flat : FlatState) (h address len : ℕ) → Tel
     cached_byte (cache_at copies.caches h) at ≡ byte_in flat.base flat.bytes at
 read_agrees copies flat h address len tells piece none =
     piece_agrees copies flat h address len tells piece
-    (readable_there (cache_at copies.caches h) (line_number address)
+    (readable_there (cache_at copies.caches h).residency (line_number address)
     (is_permitted (permitted (cache_at copies.caches h)) (line_number address) needs.Read none))
 
 write_agrees : (copies : Copies) (flat : FlatState) (h address len : ℕ) → TellsMemory copies flat →
@@ -245,7 +234,7 @@ pub tells_memory_after : (copies : Copies) (flat : FlatState) (h room : ℕ) (ne
 tells_memory_after copies flat h room new action view byte tells there run = record {
   placed = record {
     first = tells.placed.first;
-    size = tells.placed.size ∙ sym (length-stored_by (store_in (perform action view byte)) flat.base flat.bytes);
+    lines = tells.placed.lines ∙ sym (length-stored_by (store_in (perform action view byte)) flat.base flat.bytes);
   };
   bytes =
       told_after copies flat h new action (store_in (perform action view byte)) tells

@@ -1,5 +1,4 @@
 -- the laws that are offered to the crates above; every other file here is private
 pub mod Living
 pub mod Returning
-pub mod Conflicts
 pub mod Blocking

@@ -1,4 +1,5 @@
 pub mod Laws
+mod Conflicts
 mod Showing
 mod Lent
 mod EachAgent

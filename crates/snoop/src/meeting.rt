@@ -2,7 +2,6 @@
 
 ghost use Rattle.std.specs.Prelude.{◌≡◌, ◌<◌, ◌==◌, ◌&&◌, length};
 ghost use Rattle.bus_order.specs.Order.{numbered};
-ghost use Rattle.cache_sets.specs.Bits.{has_need};
 ghost use Rattle.coherence.specs.Lent.{slotted_at};
 ghost use Rattle.el_model.specs.Conflicts as model;
 ghost use Rattle.el_model.specs.State.{ModelState, hart_of};
@@ -10,9 +9,8 @@ ghost use Rattle.snoop.specs.Meets.{meets_in};
 ghost use Rattle.snoop.specs.Shows.{IsReady, Shows, bus_state, lives_at};
 
 use crate::bus::Bus;
-use bitflags::Flags;
 use bus_order::Request;
-use cache_sets::{Bits, Sets};
+use cache_sets::Sets;
 use el_base::{HartId, LineAddr, Need};
 
 impl Bus {
@@ -36,7 +34,7 @@ impl Bus {
     }
 
     /// Whether a request conflicts with the live section of a hart.
-    #[tactic(auto, using(crate::proofs::Laws::Conflicts::conflicts_shown))]
+    #[tactic(auto, using(crate::proofs::Conflicts::conflicts_shown))]
     pub(crate) fn conflicts(&self, request: Request, hart: HartId) -> bool
         requires hart_exists { hart.number < length (bus_state self.now).agents }
         requires ready { IsReady (bus_state self.now) }
@@ -48,20 +46,13 @@ impl Bus {
 }
 
 /// Whether a line has a bit that a request of this need conflicts with.
-#[tactic(auto, using(crate::proofs::Laws::Conflicts::read_need, crate::proofs::Laws::Conflicts::write_need))]
+#[tactic(auto, using(cache_sets::proofs::Laws::BitsOfWays::read_need, cache_sets::proofs::Laws::BitsOfWays::write_need))]
 pub fn meets(cache: &Sets, line: LineAddr, need: Need) -> bool
     ensures { result ≡ meets_in cache.now.residency line.number need }
 {
     let bits = cache.bits(line);
     match need {
-        Need::Read => has(bits, Need::Write),
-        Need::Write => has(bits, Need::Read) || has(bits, Need::Write),
+        Need::Read => bits.has(Need::Write),
+        Need::Write => bits.has(Need::Read) || bits.has(Need::Write),
     }
-}
-
-/// Whether the bit of a need is among these bits.
-fn has(bits: Bits, need: Need) -> bool
-    ensures { result ≡ has_need need bits }
-{
-    bits.contains(Bits::of(need))
 }

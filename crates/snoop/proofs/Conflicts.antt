@@ -1,9 +1,6 @@
 -- where a request meets a section, as the bus tells it
-use Rattle.std.proofs.Common.{◌≡◌, ◌∙◌, ℕ, ◌==◌, ◌&&◌, Bool, true, false, not, Option, Some, None, is_some, refl, ap}
+use Rattle.std.proofs.Common.{◌≡◌, ◌∙◌, ℕ, ◌==◌, ◌&&◌, Bool, true, false, not, is_some, refl, ap}
 use Rattle.bus_order.specs.Order.{Request}
-use Rattle.cache_sets.specs.Bits.{bits_of, has_need}
-use Rattle.residency.specs.Cache.{bit_in}
-use Rattle.residency.specs.Residency.{Way}
 use Rattle.coherence.specs.Lent.{slotted_at}
 use Rattle.el_base.specs.declared.outcomes.Need.{Need}
 use Rattle.el_base.specs.declared.outcomes.Need.TheVariants.{Read, Write}
@@ -12,29 +9,6 @@ use Rattle.el_model.specs.State.{Hart, ModelState, hart_of}
 use Rattle.snoop.proofs.Laws.Living.{lives_shown}
 use Rattle.snoop.specs.Meets.{meets_in}
 use Rattle.snoop.specs.Shows.{BusState, Shows, lives_at}
-
-read_by : (read write : Bool) (line : ℕ) (letter : _) →
-    has_need Read (bits_of (Some (record { line = line; letter = letter; read = read; write = write }))) ≡ read
-read_by true true line letter = refl
-read_by true false line letter = refl
-read_by false true line letter = refl
-read_by false false line letter = refl
-
-write_by : (read write : Bool) (line : ℕ) (letter : _) →
-    has_need Write (bits_of (Some (record { line = line; letter = letter; read = read; write = write }))) ≡ write
-write_by true true line letter = refl
-write_by true false line letter = refl
-write_by false true line letter = refl
-write_by false false line letter = refl
-
--- the bits that a cache tells are those of the way
-pub read_need : (way : Option Way) → has_need Read (bits_of way) ≡ bit_in Read way
-read_need None = refl
-read_need (Some way) = read_by way.read way.write way.line way.letter
-
-pub write_need : (way : Option Way) → has_need Write (bits_of way) ≡ bit_in Write way
-write_need None = refl
-write_need (Some way) = write_by way.read way.write way.line way.letter
 
 pub meets_same : (hart : Hart) (line : ℕ) (need : Need) → meets_in hart.cache line need ≡ meets_bit hart line need
 meets_same hart line Read = refl

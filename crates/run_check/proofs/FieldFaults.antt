@@ -1,14 +1,13 @@
 -- Fields with and without a fault.
-use Rattle.std.proofs.Common.{◌≡◌, ℕ, ◌+◌, ◌*◌, ◌≤◌, Bool, true, false, not, ◌==◌, ltb, List, [], ◌∷◌, length}
-use Rattle.std.proofs.Common.{get_or, Option, None, refl, arith}
+use Rattle.std.proofs.Common.{◌≡◌, ℕ, ◌+◌, ◌*◌, ◌≤◌, Bool, false, not, ltb, List, [], ◌∷◌, length}
+use Rattle.std.proofs.Common.{get_or, None, refl, arith}
 use Rattle.std.proofs.lemmas.Bool.{le-ltb, ltb-false}
 use Rattle.std.proofs.lemmas.Bool.Decides.{nat_tests}
 use Rattle.el_base.specs.Config.{within}
 use Rattle.el_base.specs.Firsts.{first_of, some_if}
-use Rattle.el_base.specs.declared.file_fault.FileFault.{FileFault}
 use Rattle.el_base.specs.declared.hart_id.TheConstants.{MAX_HARTS}
-use Rattle.el_base.proofs.Laws.Tests.{same_unless_other}
 use Rattle.el_base.proofs.Laws.Options.{both_none, cond_none, or_none}
+use Rattle.file_numbers.proofs.Laws.Fields.{field_none, field_passes, passes_if, wrong_none}
 use Rattle.file_numbers.specs.Numbers.{number_at}
 use Rattle.run_check.specs.declared.fault.FaultKind.{FaultKind}
 use Rattle.run_check.specs.declared.fault.FaultKind.TheVariants as kinds
@@ -21,34 +20,18 @@ use Rattle.rv_flat.specs.FlatState.{output_limit}
 
 -- ---- what no fault says
 
-pub field_none : (file : List ℕ) (end : ℕ) (fault : Option FileFault) → field file end fault ≡ None →
-    (end ≤ length file) × (fault ≡ None)
-unfolding field
-field_none file end fault none =
-    let e = cond_none (ltb (length file) end) (fault_of kinds.Short (length file)) fault none in
-    (ltb-false (length file) end e.0, e.1)
-
 pub field_right : (file : List ℕ) (end : ℕ) (wrong : Bool) (kind : FaultKind) (place : ℕ) →
     field file end (some_if wrong (fault_of kind place)) ≡ None → (end ≤ length file) × (wrong ≡ false)
 field_right file end wrong kind place none =
-    let e = field_none file end (some_if wrong (fault_of kind place)) none in
+    let e = field_none _ file end (some_if wrong (fault_of kind place)) none in
     (e.0, (cond_none wrong (fault_of kind place) None e.1).0)
 
 -- ---- what has none
 
-pub field_passes : (file : List ℕ) (end : ℕ) (fault : Option FileFault) → end ≤ length file → fault ≡ None →
-    field file end fault ≡ None
-unfolding field
-field_passes file end fault whole none = rw (le-ltb (length file) end whole) none
-
-pub passes_if : (wrong : Bool) (kind : FaultKind) (place : ℕ) → wrong ≡ false →
-    some_if wrong (fault_of kind place) ≡ None
-passes_if true kind place e = absurd cc
-passes_if false kind place e = refl
-
 pub right_passes : (file : List ℕ) (end : ℕ) (wrong : Bool) (kind : FaultKind) (place : ℕ) → end ≤ length file →
     wrong ≡ false → field file end (some_if wrong (fault_of kind place)) ≡ None
-right_passes file end wrong kind place whole right = field_passes file end _ whole (passes_if wrong kind place right)
+right_passes file end wrong kind place whole right =
+    field_passes _ file end _ whole (passes_if wrong (fault_of kind place) right)
 
 -- ---- the items
 
@@ -87,7 +70,7 @@ line_right file lines index none =
     let place = line_place lines index in
     let e = or_none _ _ none in
     let number = field_right file (place + 4) (line_wrong (line_at file lines) index) kinds.Lines place e.0 in
-    let bytes = field_none file (place + 68) None e.1 in
+    let bytes = field_none _ file (place + 68) None e.1 in
     record { number = number.1; whole = bytes.0 }
 
 pub line_passes : (file : List ℕ) (lines index : ℕ) → LineRight file lines index → line_fault file lines index ≡ None
@@ -97,7 +80,7 @@ line_passes file lines index r =
     let whole = r.whole in
     both_none _ _
     (right_passes file (place + 4) (line_wrong (line_at file lines) index) kinds.Lines place (omega arith) r.number)
-    (field_passes file (place + 68) None (omega arith) refl)
+    (field_passes _ file (place + 68) None (omega arith) refl)
 
 pub view_right : (file : List ℕ) (views hart place : ℕ) → place ≡ views + 138 * hart →
     view_fault file views hart ≡ None → (place + 138 ≤ length file) × (view_wrong file place ≡ false)
@@ -114,12 +97,6 @@ view_passes file views hart whole right =
     (views + 138 * hart) whole right
 
 -- ---- the other fields
-
-wrong_none : (file : List ℕ) (place wanted : ℕ) (kind : FaultKind) → wrong file place wanted kind ≡ None →
-    get_or file place 0 ≡ wanted
-wrong_none file place wanted kind none =
-    same_unless_other (get_or file place 0) wanted
-    (cond_none (not (get_or file place 0 == wanted)) (fault_of kind place) None none).0
 
 pub record HeadRight (file : List ℕ) : Type 0 where
   pub first : get_or file 0 0 ≡ 0x45
@@ -149,22 +126,22 @@ head_right file none =
     let e1 = or_none (field file 5 (wrong file 4 1 kinds.Version)) (first_of harts) e0.1 in
     let e2 = or_none (field file 6 (some_if harts-wrong (fault_of kinds.Harts 5))) (first_of behind) e1.1 in
     let e3 = or_none (field file 10 None) None e2.1 in
-    let m = field_none file 4 letters e0.0 in
+    let m = field_none _ file 4 letters e0.0 in
     let m0 = or_none (wrong file 0 0x45 kinds.Magic) (first_of first) m.1 in
     let m1 = or_none (wrong file 1 0x4c kinds.Magic) (first_of second) m0.1 in
     let m2 = or_none (wrong file 2 0x43 kinds.Magic) (first_of third) m1.1 in
     let m3 = or_none (wrong file 3 0x54 kinds.Magic) None m2.1 in
-    let v = field_none file 5 (wrong file 4 1 kinds.Version) e1.0 in
+    let v = field_none _ file 5 (wrong file 4 1 kinds.Version) e1.0 in
     let h = within_of (harts_of file) (field_right file 6 harts-wrong kinds.Harts 5 e2.0).1 in
     record {
-      first = wrong_none file 0 0x45 kinds.Magic m0.0;
-      second = wrong_none file 1 0x4c kinds.Magic m1.0;
-      third = wrong_none file 2 0x43 kinds.Magic m2.0;
-      fourth = wrong_none file 3 0x54 kinds.Magic m3.0;
-      version = wrong_none file 4 1 kinds.Version v.1;
+      first = wrong_none (fault_of kinds.Magic) file 0 0x45 m0.0;
+      second = wrong_none (fault_of kinds.Magic) file 1 0x4c m1.0;
+      third = wrong_none (fault_of kinds.Magic) file 2 0x43 m2.0;
+      fourth = wrong_none (fault_of kinds.Magic) file 3 0x54 m3.0;
+      version = wrong_none (fault_of kinds.Version) file 4 1 v.1;
       some_hart = h.0;
       few_harts = h.1;
-      whole = (field_none file 10 None e3.0).0;
+      whole = (field_none _ file 10 None e3.0).0;
     }
 
 not_over : (limit n : ℕ) → ltb limit n ≡ false → n ≤ limit
@@ -177,7 +154,7 @@ output_right file place none =
     let e = or_none _ _ none in
     let len = field_right file (place + 4) (ltb output_limit (number_at file place)) kinds.Output place e.0 in (
       not_over output_limit (number_at file place) len.1,
-      (field_none file (place + 4 + number_at file place) None e.1).0,
+      (field_none _ file (place + 4 + number_at file place) None e.1).0,
     )
 
 pub output_passes : (file : List ℕ) (place len : ℕ) → number_at file place ≡ len → len ≤ output_limit →
@@ -189,7 +166,7 @@ output_passes file place len is few whole =
     both_none _ _
     (right_passes file (place + 4) (ltb output_limit (number_at file place)) kinds.Output place (omega arith)
     (le-ltb output_limit (number_at file place) most))
-    (field_passes file (place + 4 + number_at file place) None short refl)
+    (field_passes _ file (place + 4 + number_at file place) None short refl)
 
 pub line_count_right : (file : List ℕ) (place : ℕ) → line_count_fault file place ≡ None →
     (number_at file place ≤ most_lines) × (place + 4 ≤ length file)
@@ -212,4 +189,4 @@ tail_right file end none =
 
 pub tail_passes : (file : List ℕ) (end : ℕ) → length file ≤ end → tail_fault file end ≡ None
 unfolding tail_fault
-tail_passes file end over = passes_if (ltb end (length file)) kinds.Tail end (le-ltb end (length file) over)
+tail_passes file end over = passes_if (ltb end (length file)) (fault_of kinds.Tail end) (le-ltb end (length file) over)

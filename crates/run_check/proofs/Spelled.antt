@@ -30,7 +30,8 @@ use Rattle.run_check.specs.Rules.{count_wrong, most_lines, most_steps, reservati
 use Rattle.run_check.specs.Spelling.{count_in, hart_in, line_in, lines_bytes, output_bytes, patch_bytes, patch_in}
 use Rattle.run_check.specs.Spelling.{reserved_bytes, spelling, status_bytes, stretch_bytes, view_bytes, IsCertificate}
 use Rattle.run_check.specs.Spelling.{IsReserved, IsStatus, IsView}
-use Rattle.run_check.proofs.FieldFaults.{field_passes, line_count_passes, line_passes, output_passes}
+use Rattle.file_numbers.proofs.Laws.Fields.{field_passes}
+use Rattle.run_check.proofs.FieldFaults.{line_count_passes, line_passes, output_passes}
 use Rattle.run_check.proofs.FieldFaults.{right_passes, stretch_passes, tail_passes, view_passes}
 use Rattle.run_check.proofs.FirstBelow.{each_none}
 use Rattle.run_check.proofs.Items.{patch_is, stretch_is}
@@ -458,11 +459,11 @@ unfolding head_fault
 head_passes c is p =
     let file = spelling c in
     let long = p.long in
-    both_none _ _ (field_passes file 4 _ (omega arith) refl)
-    (both_none _ _ (field_passes file 5 _ (omega arith) refl)
+    both_none _ _ (field_passes _ file 4 _ (omega arith) refl)
+    (both_none _ _ (field_passes _ file 5 _ (omega arith) refl)
     (both_none _ _ (right_passes file 6 (not (within 1 MAX_HARTS (harts_of file))) kinds.Harts 5 (omega arith)
     (not_out c.harts is.some_hart is.few_harts))
-    (both_none _ None (field_passes file 10 None (omega arith) refl) refl)))
+    (both_none _ None (field_passes _ file 10 None (omega arith) refl) refl)))
 
 stretch_passes_in : (c : Content) → IsCertificate c → (k : ℕ) → k < length c.stretches →
     stretch_fault (spelling c) c.harts k ≡ None

@@ -1,26 +1,24 @@
 -- A head without a fault is spelled by what stands in it.
-use Rattle.std.proofs.Common.{◌≡◌, ℕ, ◌+◌, ◌≤◌, ◌<◌, Bool, true, not, ◌==◌, ltb, List, [], ◌∷◌, ◌++◌, length, get_or}
-use Rattle.std.proofs.Common.{drop, zero, suc, Option, None}
+use Rattle.std.proofs.Common.{◌≡◌, ℕ, ◌+◌, ◌≤◌, ◌<◌, Bool, true, not, List, [], ◌∷◌, ◌++◌, length, get_or}
+use Rattle.std.proofs.Common.{drop, zero, suc, None}
 use Rattle.std.proofs.Common.{refl, sym, ap, ◌∙◌, arith}
 use Rattle.std.proofs.Math.Seq.{drop-cons}
-use Rattle.std.proofs.lemmas.Bool.{ltb-false, not-false}
+use Rattle.std.proofs.lemmas.Bool.{not-false}
 use Rattle.std.proofs.lemmas.List.{drop-drop, take-append-drop}
 use Rattle.std.proofs.lemmas.Bool.Decides.{nat_tests}
 use Rattle.el_base.specs.Config.{allows}
 use Rattle.el_base.specs.declared.config.ConfigFault.TheVariants.{Harts, Sets, Ways, Lines, Long, Steps}
 use Rattle.el_base.specs.Firsts.{first_of, some_if}
 use Rattle.byteorder.specs.Endian.{little_bytes}
-use Rattle.el_base.specs.declared.file_fault.FileFault.{FileFault}
 use Rattle.file_numbers.specs.Numbers.{IsBytes, number_at}
+use Rattle.file_numbers.proofs.Laws.Fields.{field_none, wrong_none}
 use Rattle.file_numbers.proofs.Laws.Numbers.{number_piece}
-use Rattle.trace_file.specs.declared.fault.FaultKind.{FaultKind}
-use Rattle.trace_file.specs.declared.fault.FaultKind.TheVariants.{Short, Magic, Config as config_kind}
+use Rattle.trace_file.specs.declared.fault.FaultKind.TheVariants.{Magic, Config as config_kind}
 use Rattle.el_base.specs.Modes.{mode_number}
-use Rattle.el_base.proofs.Laws.Tests.{same_unless_other}
 use Rattle.el_base.proofs.Laws.Options.{cond_none, or_none}
 use Rattle.trace_file.specs.Spelling.{head}
 use Rattle.trace_file.specs.FaultKinds.{fault_of}
-use Rattle.trace_file.specs.Faults.{field, wrong, byte_fault, magic_fault, settings_fault, number_fault, is_mode}
+use Rattle.trace_file.specs.Faults.{wrong, byte_fault, magic_fault, settings_fault, number_fault, is_mode}
 use Rattle.trace_file.specs.Faults.{mode_at, config_at}
 
 -- ---- numbers
@@ -36,19 +34,6 @@ four_at file place end fits long is =
 
 -- ---- faults
 
-pub field_none : (file : List ℕ) (end : ℕ) (fault : Option FileFault) → field file end fault ≡ None →
-    (end ≤ length file) × (fault ≡ None)
-unfolding field
-field_none file end fault none =
-    let e = cond_none (ltb (length file) end) (fault_of Short (length file)) fault none in
-    (ltb-false (length file) end e.0, e.1)
-
-wrong_none : (file : List ℕ) (place wanted : ℕ) (kind : FaultKind) → wrong file place wanted kind ≡ None →
-    get_or file place 0 ≡ wanted
-wrong_none file place wanted kind none =
-    same_unless_other (get_or file place 0) wanted
-    (cond_none (not (get_or file place 0 == wanted)) (fault_of kind place) None none).0
-
 magic_none : (file : List ℕ) → magic_fault file ≡ None →
     (get_or file 0 0 ≡ 0x45) × (get_or file 1 0 ≡ 0x4c) × (get_or file 2 0 ≡ 0x54) × (get_or file 3 0 ≡ 0x52)
 unfolding magic_fault
@@ -56,15 +41,15 @@ magic_none file none =
     let third = wrong file 3 0x52 Magic ∷ [] in
     let second = wrong file 2 0x54 Magic ∷ third in
     let first = wrong file 1 0x4c Magic ∷ second in
-    let e = field_none file 4 (first_of (wrong file 0 0x45 Magic ∷ first)) none in
+    let e = field_none _ file 4 (first_of (wrong file 0 0x45 Magic ∷ first)) none in
     let e0 = or_none (wrong file 0 0x45 Magic) (first_of first) e.1 in
     let e1 = or_none (wrong file 1 0x4c Magic) (first_of second) e0.1 in
     let e2 = or_none (wrong file 2 0x54 Magic) (first_of third) e1.1 in
     let e3 = or_none (wrong file 3 0x52 Magic) None e2.1 in (
-      wrong_none file 0 0x45 Magic e0.0,
-      wrong_none file 1 0x4c Magic e1.0,
-      wrong_none file 2 0x54 Magic e2.0,
-      wrong_none file 3 0x52 Magic e3.0,
+      wrong_none (fault_of Magic) file 0 0x45 e0.0,
+      wrong_none (fault_of Magic) file 1 0x4c e1.0,
+      wrong_none (fault_of Magic) file 2 0x54 e2.0,
+      wrong_none (fault_of Magic) file 3 0x52 e3.0,
     )
 
 pub mode_again : (n : ℕ) → n ≤ 2 → mode_number (mode_at n) ≡ n
@@ -79,7 +64,7 @@ pub byte_passed : (file : List ℕ) (place : ℕ) (test : ℕ → Bool) → byte
 unfolding byte_fault
 byte_passed file place test none =
     let passed = test (get_or file place 0) in
-    let e = field_none file (place + 1) (some_if (not passed) (fault_of config_kind place)) none in
+    let e = field_none _ file (place + 1) (some_if (not passed) (fault_of config_kind place)) none in
     not-false passed (cond_none (not passed) (fault_of config_kind place) None e.1).0
 
 pub number_passed : (file : List ℕ) (place : ℕ) (test : ℕ → Bool) → number_fault file place test ≡ None →
@@ -87,7 +72,7 @@ pub number_passed : (file : List ℕ) (place : ℕ) (test : ℕ → Bool) → nu
 unfolding number_fault
 number_passed file place test none =
     let passed = test (number_at file place) in
-    let e = field_none file (place + 4) (some_if (not passed) (fault_of config_kind place)) none in
+    let e = field_none _ file (place + 4) (some_if (not passed) (fault_of config_kind place)) none in
     (e.0, not-false passed (cond_none (not passed) (fault_of config_kind place) None e.1).0)
 
 at_most_two : (n : ℕ) → is_mode n ≡ true → n ≤ 2

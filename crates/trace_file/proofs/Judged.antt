@@ -31,7 +31,8 @@ use Rattle.trace_file.specs.Faults.{trace_fault}
 use Rattle.trace_file.specs.Reading.{entries_at, event_in, events_at, recorded_at}
 use Rattle.trace_file.proofs.EventBytes.{none_fails, all_taken}
 use Rattle.trace_file.proofs.EntryLaws.{entries_spelled, event_spelled}
-use Rattle.trace_file.proofs.Heads.{byte_passed, number_passed, field_none, head_spelled}
+use Rattle.file_numbers.proofs.Laws.Fields.{field_none}
+use Rattle.trace_file.proofs.Heads.{byte_passed, number_passed, head_spelled}
 
 -- ---- the configuration
 
@@ -90,7 +91,7 @@ head_known file fits none =
     let h3 = or_none (number_fault file 18 (is_few (number_at file 14))) None h2.1 in
     let number = number_passed file 18 (is_few (number_at file 14)) h3.0 in
     let known = is_version (get_or file 4 0) in
-    let version = field_none file 5 (some_if (not known) (fault_of Version 4)) h1.0 in
+    let version = field_none _ file 5 (some_if (not known) (fault_of Version 4)) h1.0 in
     let r = settings_within file h2.0 in
     record {
       version = not-false known (cond_none (not known) (fault_of Version 4) None version.1).0;
@@ -125,7 +126,7 @@ bare_known file harts count none =
     let e1 = or_none (event_fault harts count file) (first_of (end_fault count file ∷ [])) none in
     let e2 = or_none (end_fault count file) None e1.1 in
     let over = ltb (22 + count) (length file) in
-    let end = field_none file (22 + count) (some_if over (fault_of Tail (22 + count))) e2.0 in
+    let end = field_none _ file (22 + count) (some_if over (fault_of Tail (22 + count))) e2.0 in
     let most : length file ≤ 22 + count =
     ltb-false (22 + count) (length file) (cond_none over (fault_of Tail (22 + count)) None end.1).0
     in

@@ -11,6 +11,7 @@ use Rattle.el_base.specs.declared.config.Config as settings
 use Rattle.el_base.specs.declared.config.ConfigFault.TheVariants as settings_of
 use Rattle.el_base.specs.declared.config.Mode.{Mode}
 use Rattle.el_base.specs.declared.config.Mode.TheVariants.{Plain, Sle, Tlr}
+use Rattle.file_numbers.specs.Fields.{field_by, wrong_by}
 use Rattle.file_numbers.specs.Numbers.{number_at}
 use Rattle.trace_file.specs.declared.fault.FaultKind.{FaultKind}
 use Rattle.trace_file.specs.declared.fault.FaultKind.TheVariants.{Short, Magic, Version, Config, Event, Tail}
@@ -18,12 +19,12 @@ use Rattle.trace_file.specs.FaultKinds.{fault_of}
 use Rattle.trace_file.specs.Fields.{Field, entry_fields, entry_width, is_event}
 
 -- a field that ends at this place: the file ends in it, or it has this fault, if it has one
-unfoldable pub field : List ℕ → ℕ → Option FileFault → Option FileFault
-field file end fault = if nat_lt (length file) end then Some (fault_of Short (length file)) else fault
+abbrev pub field : List ℕ → ℕ → Option FileFault → Option FileFault
+field = field_by (fault_of Short)
 
 -- the byte at a place is not the one that is wanted there
 abbrev pub wrong : List ℕ → ℕ → ℕ → FaultKind → Option FileFault
-wrong file place wanted kind = some_if (not (slice_index file place == wanted)) (fault_of kind place)
+wrong file place wanted kind = wrong_by (fault_of kind) file place wanted
 
 -- a byte of the configuration, and a number of four bytes, which this test is to pass
 unfoldable pub byte_fault : List ℕ → ℕ → (ℕ → Bool) → Option FileFault

@@ -23,7 +23,6 @@ use Rattle.el_base.specs.declared.events.Event.{Event}
 use Rattle.el_base.specs.declared.config.Config.{Config}
 use Rattle.el_base.specs.declared.config.Mode.{Mode}
 use Rattle.el_base.specs.declared.config.Mode.TheVariants.{Plain, Sle, Tlr}
-use Rattle.el_base.specs.declared.file_fault.FileFault.{FileFault}
 use Rattle.el_base.specs.declared.outcomes.Outcome.{Outcome}
 use Rattle.trace_file.specs.declared.fault.FaultKind.{FaultKind}
 use Rattle.trace_file.specs.declared.fault.FaultKind.TheVariants.{Config as config_kind, Version}
@@ -31,8 +30,9 @@ use Rattle.el_base.specs.Modes.{mode_number}
 use Rattle.trace_file.specs.Spelling.{head, spelling, event_byte, outcomes, recorded_bytes, version_of, IsTrace}
 use Rattle.trace_file.specs.FaultKinds.{fault_of}
 use Rattle.trace_file.specs.Fields.{is_event}
+use Rattle.file_numbers.proofs.Laws.Fields.{field_passes}
 use Rattle.file_numbers.specs.Numbers.{number_at}
-use Rattle.trace_file.specs.Faults.{field, byte_fault, magic_fault, version_fault, settings_fault, number_fault}
+use Rattle.trace_file.specs.Faults.{byte_fault, magic_fault, version_fault, settings_fault, number_fault}
 use Rattle.trace_file.specs.Faults.{head_fault, mode_at, is_mode, is_few}
 use Rattle.trace_file.specs.Faults.{is_version, event_fault, end_fault, events_fault, entries_fault, body_fault}
 use Rattle.trace_file.specs.Faults.{trace_fault, config_at}
@@ -40,11 +40,6 @@ use Rattle.trace_file.specs.Reading.{entries_in, event_in, events_at, recorded_a
 use Rattle.trace_file.proofs.EntryLaws.{entries_again, event_back, event_passes}
 
 -- ---- fields without a fault
-
-field_passes : (file : List ℕ) (end : ℕ) (fault : Option FileFault) → end ≤ length file → fault ≡ None →
-    field file end fault ≡ None
-unfolding field
-field_passes file end fault whole none = rw (le-ltb (length file) end whole) none
 
 holds_passes : (holds : Bool) (kind : FaultKind) (place : ℕ) → holds ≡ true →
     some_if (not holds) (fault_of kind place) ≡ None
@@ -55,13 +50,13 @@ byte_passes : (file : List ℕ) (place : ℕ) (test : ℕ → Bool) → place + 
     test (get_or file place 0) ≡ true → byte_fault file place test ≡ None
 unfolding byte_fault
 byte_passes file place test whole passed =
-    field_passes file (place + 1) _ whole (holds_passes (test (get_or file place 0)) config_kind place passed)
+    field_passes _ file (place + 1) _ whole (holds_passes (test (get_or file place 0)) config_kind place passed)
 
 number_passes : (file : List ℕ) (place : ℕ) (test : ℕ → Bool) → place + 4 ≤ length file →
     test (number_at file place) ≡ true → number_fault file place test ≡ None
 unfolding number_fault
 number_passes file place test whole passed =
-    field_passes file (place + 4) _ whole (holds_passes (test (number_at file place)) config_kind place passed)
+    field_passes _ file (place + 4) _ whole (holds_passes (test (number_at file place)) config_kind place passed)
 
 -- ---- what stands in a head, whatever follows it
 
@@ -117,9 +112,9 @@ head_passes version count c tail known r few =
     rw (steps_is version count c tail (omega arith), count_is version count c tail (omega arith))
     (few_pass count c.steps few)
     in
-    both_none (magic_fault file) _ (field_passes file 4 _ (omega arith) refl)
+    both_none (magic_fault file) _ (field_passes _ file 4 _ (omega arith) refl)
     (both_none (version_fault file) _
-    (field_passes file 5 _ (omega arith) (holds_passes (is_version version) Version 4 known))
+    (field_passes _ file 5 _ (omega arith) (holds_passes (is_version version) Version 4 known))
     (both_none (settings_fault file) _ (settings_pass version count c tail r)
     (both_none (number_fault file 18 (is_few (number_at file 14))) None
     (number_passes file 18 (is_few (number_at file 14)) (omega arith) count-in) refl)))
@@ -159,7 +154,7 @@ end_passes c es =
     let file = spelling c es None in
     let long : length file ≡ 22 + length es = omega (arith, length-map es event_byte) in
     let over : ltb (22 + length es) (length file) ≡ false = le-ltb (22 + length es) (length file) (omega arith) in
-    field_passes file (22 + length es) _ (omega arith) (rw over refl)
+    field_passes _ file (22 + length es) _ (omega arith) (rw over refl)
 
 events_back : (es : List Event) → map event_in (map event_byte es) ≡ es
 events_back [] = refl

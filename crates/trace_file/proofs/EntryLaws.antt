@@ -35,10 +35,11 @@ use Rattle.trace_file.specs.Faults.{entries_fault, entry_fault, field_fault, fie
 use Rattle.trace_file.specs.Fields.{Field, byte_field, entry_width, event_field, fields_of, freed_field, is_blocking}
 use Rattle.trace_file.specs.Fields.{is_cause, is_code, is_event}
 use Rattle.trace_file.specs.Fields.{is_line, losers_field, number_field, widths}
-use Rattle.trace_file.specs.Outcomes.{IsRecordable, blocking_byte, cause_code, freed_bytes, losers_bytes}
+use Rattle.trace_file.specs.Codes.{cause_code, kind_at, why_code}
+use Rattle.trace_file.specs.Outcomes.{IsRecordable, blocking_byte, freed_bytes, losers_bytes}
 use Rattle.trace_file.specs.Outcomes.{most_committed, most_let_go}
-use Rattle.trace_file.specs.Outcomes.{outcome_spelling, why_code}
-use Rattle.trace_file.specs.Reading.{entries_in, entry_in, event_in, kind_at, outcome_in}
+use Rattle.trace_file.specs.Outcomes.{outcome_spelling}
+use Rattle.trace_file.specs.Reading.{entries_in, entry_in, event_in, outcome_in}
 use Rattle.trace_file.specs.Spelling.{entry_bytes, event_byte, outcomes, recorded_bytes}
 use Rattle.trace_file.proofs.EventBytes.{kind_again, kind_back}
 use Rattle.trace_file.proofs.FieldRows.{Fill, field_passes, filled, first_known, joined}

@@ -11,7 +11,7 @@ use Rattle.el_base.specs.Kinds.{kind_number}
 use Rattle.el_base.specs.declared.events.Kind.{Kind}
 use Rattle.el_base.specs.declared.events.Kind.TheVariants.{Step, Order, Serve, Deliver}
 use Rattle.el_base.proofs.Laws.Options.{cond_none}
-use Rattle.trace_file.specs.Reading.{kind_at}
+use Rattle.trace_file.specs.Codes.{kind_at}
 
 -- where no element fails a test, each passes it
 pub none_fails : (test : ℕ → Bool) (xs : List ℕ) → position (λ x. not (test x)) xs ≡ None →

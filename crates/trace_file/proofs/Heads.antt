@@ -18,8 +18,9 @@ use Rattle.el_base.specs.Modes.{mode_number}
 use Rattle.el_base.proofs.Laws.Options.{cond_none, or_none}
 use Rattle.trace_file.specs.Spelling.{head}
 use Rattle.trace_file.specs.FaultKinds.{fault_of}
+use Rattle.trace_file.specs.Codes.{mode_at}
 use Rattle.trace_file.specs.Faults.{wrong, byte_fault, magic_fault, settings_fault, number_fault, is_mode}
-use Rattle.trace_file.specs.Faults.{mode_at, config_at}
+use Rattle.trace_file.specs.Faults.{config_at}
 
 -- ---- numbers
 

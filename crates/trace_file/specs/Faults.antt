@@ -9,10 +9,9 @@ use Rattle.el_base.specs.Firsts.{first_of, some_if}
 use Rattle.el_base.specs.declared.file_fault.FileFault.{FileFault}
 use Rattle.el_base.specs.declared.config.Config as settings
 use Rattle.el_base.specs.declared.config.ConfigFault.TheVariants as settings_of
-use Rattle.el_base.specs.declared.config.Mode.{Mode}
-use Rattle.el_base.specs.declared.config.Mode.TheVariants.{Plain, Sle, Tlr}
 use Rattle.file_numbers.specs.Fields.{field_by, wrong_by}
 use Rattle.file_numbers.specs.Numbers.{number_at}
+use Rattle.trace_file.specs.Codes.{mode_at}
 use Rattle.trace_file.specs.declared.fault.FaultKind.{FaultKind}
 use Rattle.trace_file.specs.declared.fault.FaultKind.TheVariants.{Short, Magic, Version, Config, Event, Tail}
 use Rattle.trace_file.specs.FaultKinds.{fault_of}
@@ -140,9 +139,6 @@ unfoldable pub trace_fault : List ℕ → Option FileFault
 trace_fault file = first_of (head_fault file ∷ body_fault file ∷ [])
 
 -- what the fields of the configuration say
-abbrev pub mode_at : ℕ → Mode
-mode_at number = if number == 0 then Plain else if number == 1 then Sle else Tlr
-
 unfoldable pub config_at : List ℕ → settings.Config
 config_at file = record {
   harts = slice_index file 5;

@@ -1,3 +1,4 @@
+pub mod Codes
 pub mod FaultKinds
 pub mod Faults
 pub mod Fields

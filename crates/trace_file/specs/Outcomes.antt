@@ -7,8 +7,6 @@ use Rattle.el_base.specs.NibblePairs.{pairs_of}
 use Rattle.el_base.specs.declared.freed.Freed.{Freed}
 use Rattle.el_base.specs.declared.hart_id.HartId.{HartId}
 use Rattle.el_base.specs.declared.losers.Losers.{Losers}
-use Rattle.el_base.specs.declared.outcomes.Cause.{Cause}
-use Rattle.el_base.specs.declared.outcomes.Cause.TheVariants.{Room, Lines, Long, Call, Mixed}
 use Rattle.el_base.specs.declared.outcomes.Need.{Need}
 use Rattle.el_base.specs.declared.outcomes.Need.TheVariants.{Read, Write}
 use Rattle.el_base.specs.declared.outcomes.Outcome.{Outcome}
@@ -16,7 +14,7 @@ use Rattle.el_base.specs.declared.outcomes.Outcome.TheVariants.{Idle, Stalled, M
 use Rattle.el_base.specs.declared.outcomes.Outcome.TheVariants.{RolledBack, Ordered, Served}
 use Rattle.el_base.specs.declared.outcomes.Outcome.TheVariants.{Blocked, Delivered, Armed, LetGo}
 use Rattle.el_base.specs.declared.outcomes.Why.{Why}
-use Rattle.el_base.specs.declared.outcomes.Why.TheVariants.{Behind, Retained, Locked}
+use Rattle.trace_file.specs.Codes.{cause_code, why_code}
 
 -- ---- codes
 
@@ -24,18 +22,6 @@ use Rattle.el_base.specs.declared.outcomes.Why.TheVariants.{Behind, Retained, Lo
 abbrev pub missed_code : Need → ℕ
 missed_code Read = 2
 missed_code Write = 3
-
-abbrev pub cause_code : Cause → ℕ
-cause_code Room = 0
-cause_code Lines = 1
-cause_code Long = 2
-cause_code Call = 3
-cause_code Mixed = 4
-
-abbrev pub why_code : Why → ℕ
-why_code Behind = 0
-why_code Retained = 1
-why_code Locked = 2
 
 -- ---- spelling
 

@@ -10,35 +10,19 @@ use Rattle.el_base.specs.Losers.{decoded_winner, losers_of}
 use Rattle.el_base.specs.NibblePairs.{nibble_in}
 use Rattle.el_base.specs.declared.entries.Entry.{Entry}
 use Rattle.el_base.specs.declared.events.Event.{Event}
-use Rattle.el_base.specs.declared.events.Kind.{Kind}
-use Rattle.el_base.specs.declared.events.Kind.TheVariants.{Step, Order, Serve, Deliver}
 use Rattle.el_base.specs.declared.freed.Freed.{Freed}
 use Rattle.el_base.specs.declared.losers.Losers.{Losers}
-use Rattle.el_base.specs.declared.outcomes.Cause.{Cause}
-use Rattle.el_base.specs.declared.outcomes.Cause.TheVariants.{Room, Lines, Long, Call, Mixed}
 use Rattle.el_base.specs.declared.outcomes.Need.TheVariants.{Read, Write}
 use Rattle.el_base.specs.declared.outcomes.Outcome.{Outcome}
 use Rattle.el_base.specs.declared.outcomes.Outcome.TheVariants.{Idle, Stalled, Missed, Ran, Began, Buffered, Committed}
 use Rattle.el_base.specs.declared.outcomes.Outcome.TheVariants.{RolledBack, Ordered, Served}
 use Rattle.el_base.specs.declared.outcomes.Outcome.TheVariants.{Blocked, Delivered, Armed, LetGo}
-use Rattle.el_base.specs.declared.outcomes.Why.{Why}
-use Rattle.el_base.specs.declared.outcomes.Why.TheVariants.{Behind, Retained, Locked}
 use Rattle.file_numbers.specs.Numbers.{number_at}
+use Rattle.trace_file.specs.Codes.{cause_at, kind_at, why_at}
 use Rattle.trace_file.specs.Fields.{entry_width}
 use Rattle.trace_file.specs.Spelling.{outcomes}
 
 -- ---- fields
-
-unfoldable pub kind_at : ℕ → Kind
-kind_at number = if number == 0 then Step else if number == 1 then Order else if number == 2 then Serve else Deliver
-
-unfoldable pub cause_at : ℕ → Cause
-cause_at code =
-    if code == 0 then Room else if code == 1 then Lines else if code == 2 then Long else if code == 3
-    then Call else Mixed
-
-unfoldable pub why_at : ℕ → Why
-why_at code = if code == 0 then Behind else if code == 1 then Retained else Locked
 
 -- losers and freed harts of the four bytes in front
 unfoldable pub losers_in : List ℕ → Losers

@@ -3,9 +3,11 @@
 ghost use Rattle.std.specs.Prelude.{◌≡◌, ◌≤◌, None, Some, length, slice_index, IfErr, IfOk, OnOk};
 ghost use Rattle.el_base.specs.Config.{IsInRange};
 ghost use Rattle.file_numbers.specs.Numbers.{number_at};
-ghost use Rattle.trace_file.specs.Faults.{byte_fault, config_at, head_fault, is_few, is_mode, magic_fault, mode_at, number_fault, settings_fault};
+ghost use Rattle.trace_file.specs.Codes.{mode_at};
+ghost use Rattle.trace_file.specs.Faults.{byte_fault, config_at, head_fault, is_few, is_mode, magic_fault, number_fault, settings_fault};
 ghost use Rattle.trace_file.specs.Faults.{version_fault};
 
+use crate::codes;
 use crate::fault::FaultKind;
 use crate::fields::{expect, reaches, setting_byte, setting_number};
 use el_base::{Config, ConfigFault, FileFault, MAX_STEPS, Mode};
@@ -141,11 +143,7 @@ fn mode_of(file: &[u8]) -> Result<Mode, FileFault>
     reaches(file, MODE + 1)?;
     let number = file[MODE as usize];
     expect(number <= LAST_MODE, FaultKind::Config, MODE)?;
-    match number {
-        0 => Ok(Mode::Plain),
-        1 => Ok(Mode::Sle),
-        _ => Ok(Mode::Tlr),
-    }
+    Ok(codes::mode_of(number))
 }
 
 /// How many events there are: no more than steps.

@@ -9,6 +9,7 @@
 //! Where a doc comment names no other source, its rule is this project's profile.
 #![tactic(auto)]
 
+mod codes;
 mod content;
 mod entries;
 mod fault;

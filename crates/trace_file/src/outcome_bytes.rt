@@ -4,9 +4,10 @@ ghost use Rattle.std.specs.Prelude.{◌≡◌, ℕ, ◌+◌, ◌<◌, ◌≤◌,
 ghost use Rattle.el_base.specs.Freed.{count_in};
 ghost use Rattle.el_base.specs.Losers.{beaten_by, winner_code};
 ghost use Rattle.el_base.specs.NibblePairs.{pair_of};
-ghost use Rattle.trace_file.specs.Outcomes.{cause_code, freed_bytes, losers_bytes, missed_code, outcome_spelling, why_code};
+ghost use Rattle.trace_file.specs.Outcomes.{freed_bytes, losers_bytes, missed_code, outcome_spelling};
 
-use el_base::{Cause, Freed, HartId, Losers, Need, Outcome, Why};
+use crate::codes::{cause_code, why_code};
+use el_base::{Freed, HartId, Losers, Need, Outcome};
 use std::marker::Model;
 
 /// The most bytes of an outcome.
@@ -114,29 +115,6 @@ fn missed_code(need: Need) -> u8
     match need {
         Need::Read => 2,
         Need::Write => 3,
-    }
-}
-
-fn cause_code(cause: Cause) -> u8
-    ensures { result ≡ cause_code cause }
-{
-    match cause {
-        Cause::Room => 0,
-        Cause::Lines => 1,
-        Cause::Long => 2,
-        Cause::Call => 3,
-        Cause::Mixed => 4,
-    }
-}
-
-fn why_code(why: Why) -> u8
-    ensures exact { result ≡ why_code why }
-    ensures small { result ≤ 2 }
-{
-    match why {
-        Why::Behind => 0,
-        Why::Retained => 1,
-        Why::Locked => 2,
     }
 }
 

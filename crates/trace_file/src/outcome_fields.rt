@@ -8,12 +8,14 @@ ghost use Rattle.el_base.specs.Config.{within};
 ghost use Rattle.el_base.specs.HartId.{hart_id};
 ghost use Rattle.el_base.specs.LineAddr.{line_addr};
 ghost use Rattle.el_base.specs.NibblePairs.{nibble_in};
+ghost use Rattle.trace_file.specs.Codes.{cause_at, why_at};
 ghost use Rattle.trace_file.specs.FaultKinds.{fault_of};
 ghost use Rattle.trace_file.specs.Faults.{field_fault};
 ghost use Rattle.trace_file.specs.Fields.{are_nibbles, byte_field, freed_field, is_blocking, is_cause, is_line, losers_field, most_for, number_field};
 ghost use Rattle.trace_file.specs.Outcomes.{most_committed, most_let_go};
-ghost use Rattle.trace_file.specs.Reading.{cause_at, freed_in, losers_in, why_at};
+ghost use Rattle.trace_file.specs.Reading.{freed_in, losers_in};
 
+use crate::codes::{self, why_of};
 use crate::fault::FaultKind;
 use crate::fields::expect;
 use byteorder::{ByteOrder, LittleEndian};
@@ -105,7 +107,7 @@ pub fn let_go_of(bytes: &[u8], place: u32) -> Result<u32, FileFault>
     Ok(count.into())
 }
 
-#[tactic(auto, unfolding(crate::specs::Faults::field_fault, crate::specs::Reading::cause_at))]
+#[tactic(auto, unfolding(crate::specs::Faults::field_fault))]
 pub fn cause_of(bytes: &[u8], place: u32) -> Result<Cause, FileFault>
     requires { place + 1 < 2 ^ 32 }
     ensures value { IfOk result (λ cause. cause ≡ cause_at (slice_index bytes.now 0)) }
@@ -114,17 +116,11 @@ pub fn cause_of(bytes: &[u8], place: u32) -> Result<Cause, FileFault>
 {
     let code = byte_of(bytes, place)?;
     expect(code <= LAST_CAUSE, FaultKind::Outcome, place)?;
-    Ok(match code {
-        0 => Cause::Room,
-        1 => Cause::Lines,
-        2 => Cause::Long,
-        3 => Cause::Call,
-        _ => Cause::Mixed,
-    })
+    Ok(codes::cause_of(code))
 }
 
 /// Why a request was not served, and because of which hart.
-#[tactic(auto, unfolding(crate::specs::Faults::field_fault, crate::specs::Reading::why_at))]
+#[tactic(auto, unfolding(crate::specs::Faults::field_fault))]
 pub fn blocking_of(bytes: &[u8], harts: u8, place: u32) -> Result<(Why, HartId), FileFault>
     requires fits { place + 1 < 2 ^ 32 }
     requires few { harts ≤ 8 }
@@ -139,12 +135,7 @@ pub fn blocking_of(bytes: &[u8], harts: u8, place: u32) -> Result<(Why, HartId),
         FaultKind::Outcome,
         place,
     )?;
-    let why = match byte / 16 {
-        0 => Why::Behind,
-        1 => Why::Retained,
-        _ => Why::Locked,
-    };
-    Ok((why, HartId { number: byte % 16 }))
+    Ok((why_of(byte / 16), HartId { number: byte % 16 }))
 }
 
 /// The four bits of a hart.

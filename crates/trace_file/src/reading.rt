@@ -10,15 +10,16 @@ ghost use Rattle.el_base.specs.declared.outcomes.Outcome.{Outcome};
 ghost use Rattle.file_numbers.specs.Numbers.{number_at};
 ghost use Rattle.trace_file.specs.Faults.{config_at, end_fault, entries_fault, event_fault, events_fault, trace_fault};
 ghost use Rattle.trace_file.specs.Fields.{is_event};
-ghost use Rattle.trace_file.specs.Reading.{event_in, events_at, kind_at, recorded_at};
+ghost use Rattle.trace_file.specs.Reading.{event_in, events_at, recorded_at};
 ghost use Rattle.trace_file.specs.Spelling.{listed, spelling, IsTrace};
 
+use crate::codes::kind_of;
 use crate::content::{Events, Trace};
 use crate::entries::{check_entries, entries_of};
 use crate::fault::{FaultKind, TraceFault};
 use crate::fields::{behind, expect, reaches};
 use crate::head::{HEAD_BYTES, Head, WITHOUT_OUTCOMES, head_of};
-use el_base::{Event, FileFault, FormatFault, HartId, Kind, NoMemory};
+use el_base::{Event, FileFault, FormatFault, HartId, NoMemory};
 use std::alloc::Global;
 
 /// Whether a byte is an event of one of so many harts.
@@ -73,20 +74,6 @@ fn check_end(file: &[u8], count: u32) -> Result<(), FileFault>
     reaches(file, HEAD_BYTES + count)?;
     let ends = file.len() == (HEAD_BYTES + count) as usize;
     expect(ends, FaultKind::Tail, HEAD_BYTES + count)
-}
-
-/// The kind of a number up to 3.
-#[tactic(auto, unfolding(crate::specs::Reading::kind_at))]
-fn kind_of(number: u8) -> Kind
-    requires { number ≤ 3 }
-    ensures { result ≡ kind_at number }
-{
-    match number {
-        0 => Kind::Step,
-        1 => Kind::Order,
-        2 => Kind::Serve,
-        _ => Kind::Deliver,
-    }
 }
 
 fn hart_of(number: u8) -> HartId

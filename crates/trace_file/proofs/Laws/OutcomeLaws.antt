@@ -27,13 +27,14 @@ use Rattle.el_base.proofs.Laws.Lines.{line_addr-number, line_addr-of_line}
 use Rattle.el_base.proofs.Laws.ListLaws.{four_in_front}
 use Rattle.file_numbers.specs.Numbers.{IsBytes}
 use Rattle.file_numbers.proofs.Laws.Numbers.{bytes_behind, four_bytes}
+use Rattle.trace_file.specs.Codes.{cause_at, cause_code, why_at, why_code}
 use Rattle.trace_file.specs.Faults.{fields_fault}
 use Rattle.trace_file.specs.Fields.{byte_field, fields_of, freed_field, is_blocking, is_cause, is_line, losers_field}
 use Rattle.trace_file.specs.Fields.{number_field, widths}
-use Rattle.trace_file.specs.Outcomes.{IsRecordable, blocking_byte, cause_code, freed_bytes, losers_bytes}
+use Rattle.trace_file.specs.Outcomes.{IsRecordable, blocking_byte, freed_bytes, losers_bytes}
 use Rattle.trace_file.specs.Outcomes.{most_committed, most_let_go}
-use Rattle.trace_file.specs.Outcomes.{outcome_spelling, why_code}
-use Rattle.trace_file.specs.Reading.{cause_at, freed_in, losers_in, outcome_in, why_at}
+use Rattle.trace_file.specs.Outcomes.{outcome_spelling}
+use Rattle.trace_file.specs.Reading.{freed_in, losers_in, outcome_in}
 use Rattle.trace_file.proofs.FieldRows.{first_known}
 use Rattle.trace_file.proofs.Nibbles.{counts_small, freed_again, freed_below, freed_spelled, losers_again, losers_below}
 use Rattle.trace_file.proofs.Nibbles.{losers_spelled, nibbles_small}

@@ -32,8 +32,9 @@ use Rattle.trace_file.specs.FaultKinds.{fault_of}
 use Rattle.trace_file.specs.Fields.{is_event}
 use Rattle.file_numbers.proofs.Laws.Fields.{field_passes}
 use Rattle.file_numbers.specs.Numbers.{number_at}
+use Rattle.trace_file.specs.Codes.{mode_at}
 use Rattle.trace_file.specs.Faults.{byte_fault, magic_fault, version_fault, settings_fault, number_fault}
-use Rattle.trace_file.specs.Faults.{head_fault, mode_at, is_mode, is_few}
+use Rattle.trace_file.specs.Faults.{head_fault, is_mode, is_few}
 use Rattle.trace_file.specs.Faults.{is_version, event_fault, end_fault, events_fault, entries_fault, body_fault}
 use Rattle.trace_file.specs.Faults.{trace_fault, config_at}
 use Rattle.trace_file.specs.Reading.{entries_in, event_in, events_at, recorded_at}

@@ -9,6 +9,7 @@ use rv_word::Reg;
 use std::alloc::{AllocError, Global};
 use std::process::Abort;
 use std::test::Fail;
+use worked_files::HELLO;
 
 mod calls;
 mod changes;
@@ -16,27 +17,17 @@ mod instructions;
 mod sharing;
 mod stopping;
 
-/// The ELF header and the program header of a file that is one segment at 0x10000, to be read,
-/// written and executed, with the entry behind them. The file's length is left out, at bytes 68 to
-/// 75.
-const HEADERS: [u8; 84] = [
-    0x7f, 0x45, 0x4c, 0x46, 0x01, 0x01, 0x01, 0x00, 0x00, 0x00, 0x00, 0x00, 0x00, 0x00, 0x00, 0x00,
-    0x02, 0x00, 0xf3, 0x00, 0x01, 0x00, 0x00, 0x00, 0x54, 0x00, 0x01, 0x00, 0x34, 0x00, 0x00, 0x00,
-    0x00, 0x00, 0x00, 0x00, 0x00, 0x00, 0x00, 0x00, 0x34, 0x00, 0x20, 0x00, 0x01, 0x00, 0x00, 0x00,
-    0x00, 0x00, 0x00, 0x00, 0x01, 0x00, 0x00, 0x00, 0x00, 0x00, 0x00, 0x00, 0x00, 0x00, 0x01, 0x00,
-    0x00, 0x00, 0x01, 0x00, 0x00, 0x00, 0x00, 0x00, 0x00, 0x00, 0x00, 0x00, 0x07, 0x00, 0x00, 0x00,
-    0x00, 0x10, 0x00, 0x00,
-];
-
 /// The address of the first instruction.
 pub(crate) const ENTRY: u32 = 0x10054;
 
 /// The most bytes of a file.
 pub(crate) const LIMIT: usize = 33_554_432;
 
-/// The file of a program that begins with the first of these instructions.
+/// The file of a program that begins with the first of these instructions: the headers of `HELLO` with the length of
+/// this file, in one segment at 0x10000 that is to be read, written and executed.
 pub(crate) fn file_of(rt: &impl Abort, alloc: Global, code: &[u32]) -> Result<Vec<u8>, AllocError> {
-    let mut file = HEADERS.to_vec(alloc)?;
+    let mut file = HELLO[..84].to_vec(alloc)?;
+    file[76] = 7;
     for word in code {
         file.extend_from_slice(&word.to_le_bytes())?;
     }

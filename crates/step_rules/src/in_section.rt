@@ -2,7 +2,6 @@
 
 ghost use Rattle.std.specs.Prelude.{◌≡◌, ◌<◌, ℕ, length};
 ghost use Rattle.std.specs.Option.{option_map};
-ghost use Rattle.cache_sets.specs.Bits.{has_need};
 ghost use Rattle.el_model.specs.InSection as model;
 ghost use Rattle.el_model.specs.State.{ModelState};
 ghost use Rattle.snoop.specs.Shows.{Shows, bus_state};
@@ -10,8 +9,7 @@ ghost use Rattle.step_rules.specs.Actions.{IsNext, numbered_touch};
 ghost use Rattle.step_rules.specs.Rules.{definition_in_section, is_full, marking_rule, section_of};
 
 use crate::upcoming::{Touch, calls_or_stops, is_release, stores_to_word, touch_of};
-use bitflags::Flags;
-use cache_sets::{Bits, Sets};
+use cache_sets::Sets;
 use el_base::{Cause, Config, HartId, LineAddr, Need};
 use moesi::may;
 use rv_alu::Action;
@@ -125,20 +123,13 @@ fn is_full(sets: &Sets, need: Need, lines: u8) -> bool
 }
 
 /// Whether a line has the bit that an action wants: the write bit, or for a read either.
-#[tactic(auto, using(snoop::proofs::Laws::Conflicts::read_need, snoop::proofs::Laws::Conflicts::write_need))]
+#[tactic(auto, using(cache_sets::proofs::Laws::BitsOfWays::read_need, cache_sets::proofs::Laws::BitsOfWays::write_need))]
 pub fn is_covered(sets: &Sets, touch: Touch) -> bool
     ensures { result ≡ model.is_covered sets.now.residency touch.line.number touch.need }
 {
     let bits = sets.bits(touch.line);
     match touch.need {
-        Need::Read => has(bits, Need::Read) || has(bits, Need::Write),
-        Need::Write => has(bits, Need::Write),
+        Need::Read => bits.has(Need::Read) || bits.has(Need::Write),
+        Need::Write => bits.has(Need::Write),
     }
-}
-
-/// Whether the bit of a need is among these bits.
-fn has(bits: Bits, need: Need) -> bool
-    ensures { result ≡ has_need need bits }
-{
-    bits.contains(Bits::of(need))
 }

@@ -104,7 +104,7 @@ impl Agent {
         ensures { result ≡ is_held self.now.held_line line.number }
     {
         match self.held_line {
-            Some(held) => held == line,
+            Some(held_line) => held_line == line,
             None => false,
         }
     }

@@ -67,11 +67,12 @@ fn exchange_rule(bus: &Bus, hart: HartId, exchange: Exchange, progress: Progress
     complete_rule(swap, progress.word, wanted)
 }
 
-/// The same by whether another hart waits to write the line of the section's word. `swap` finds there what the LR found.
-pub(crate) fn complete_rule(swap: Swap, word: u32, wanted: bool) -> ArmedRule
-    ensures { definition_armed result ≡ completing_rule (numbered_swap swap) word wanted }
+/// The same by whether another hart waits to write the line of the section's word, which is at `address`. `swap` finds
+/// there what the LR found.
+pub(crate) fn complete_rule(swap: Swap, address: u32, wanted: bool) -> ArmedRule
+    ensures { definition_armed result ≡ completing_rule (numbered_swap swap) address wanted }
 {
-    if swap.word == word && swap.changes_word() && !wanted {
+    if swap.word == address && swap.changes_word() && !wanted {
         ArmedRule::Elides { swap }
     } else {
         ArmedRule::LetsGo

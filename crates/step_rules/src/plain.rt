@@ -103,14 +103,14 @@ fn acquire_rule(
         return swap_rule(pool, bus, hart, exchange, touch);
     }
     match reserve_of(action) {
-        Some(word) => reserve_rule(pool, bus, hart, word, touch),
+        Some(address) => reserve_rule(pool, bus, hart, address, touch),
         None => touch_rule(bus.sets(hart), touch),
     }
 }
 
 /// The rule where the action is a swap that may be elided: it needs its line for reading; one that changes its word
 /// begins a section, unless another hart waits to write there.
-#[tactic(auto, using(crate::proofs::Laws::Begins::readable_there))]
+#[tactic(auto, using(coherence::proofs::Laws::GivenBackLaws::readable_there))]
 fn swap_rule(
     pool: &Pool,
     bus: &Bus,
@@ -164,44 +164,50 @@ pub(crate) fn begin_rule(sets: &Sets, wanted: bool, swap: Swap, touch: Option<To
 }
 
 /// The rule where the action is an LR at which its hart may arm.
-fn reserve_rule(pool: &Pool, bus: &Bus, hart: HartId, word: u32, touch: Option<Touch>) -> PlainRule
+fn reserve_rule(
+    pool: &Pool,
+    bus: &Bus,
+    hart: HartId,
+    address: u32,
+    touch: Option<Touch>,
+) -> PlainRule
     requires hart_exists { hart.number < length (bus_state bus.now).copies.caches }
     requires lent { IsLent pool.now (slotted_at (bus_state bus.now).copies.caches hart.number) }
-    requires aligned { word % 4 ≡ 0 }
+    requires aligned { address % 4 ≡ 0 }
     ensures rule { (state : ModelState) → Shows (bus_state bus.now) state →
         option_map numbered_touch touch ≡ next_touch state.committed hart.number →
-        definition_plain result ≡ model.reserve_rule state hart.number (Some word) }
+        definition_plain result ≡ model.reserve_rule state hart.number (Some address) }
     ensures old { (state : ModelState) → Shows (bus_state bus.now) state →
         Tells pool.now (bus_state bus.now) (committed_line state.committed) → IsOnLine state.committed →
-        state.committed.base ≤ word → TellsOld result state.committed }
+        state.committed.base ≤ address → TellsOld result state.committed }
 {
-    let wanted = bus.is_wanted(hart, line_of(word), Need::Read);
-    arm_rule(pool, bus.sets(hart), wanted, word, touch)
+    let wanted = bus.is_wanted(hart, line_of(address), Need::Read);
+    arm_rule(pool, bus.sets(hart), wanted, address, touch)
 }
 
 /// The same by whether another hart waits to write on the word's line: the hart arms where none does and it may read
 /// the line; else the LR runs as any instruction.
-#[tactic(auto, using(crate::proofs::Laws::Begins::readable_there, crate::proofs::Arming::never_finds))]
+#[tactic(auto, using(coherence::proofs::Laws::GivenBackLaws::readable_there, crate::proofs::Arming::never_finds))]
 pub(crate) fn arm_rule(
     pool: &Pool,
     sets: &Sets,
     wanted: bool,
-    word: u32,
+    address: u32,
     touch: Option<Touch>,
 ) -> PlainRule
     requires lent { IsLent pool.now sets.now }
-    requires aligned { word % 4 ≡ 0 }
+    requires aligned { address % 4 ≡ 0 }
     ensures rule { definition_plain result
-        ≡ arming_rule sets.now.residency wanted word (option_map numbered_touch touch) }
+        ≡ arming_rule sets.now.residency wanted address (option_map numbered_touch touch) }
     ensures old { FindsOld result (lent pool.now sets.now) }
 {
-    let line = line_of(word);
+    let line = line_of(address);
     if wanted || !may(sets.letter(line), Need::Read) {
         return touch_rule(sets, touch);
     }
     PlainRule::Arms {
-        word,
-        old: word_in(sets.bytes(pool, line), word),
+        word: address,
+        old: word_in(sets.bytes(pool, line), address),
     }
 }
 

@@ -1,11 +1,11 @@
 -- the rule of a swap that may be elided
-use Rattle.std.proofs.Common.{◌≡◌, ◌∙◌, ◌≤◌, ℕ, ◌%◌, Bool, true, List, Option, None, Some, is_some, refl, ap, sym}
+use Rattle.std.proofs.Common.{◌≡◌, ◌∙◌, ◌≤◌, ℕ, ◌%◌, Bool, true, Option, None, Some, refl, ap, sym}
 use Rattle.std.proofs.Common.{subst}
 use Rattle.std.specs.Prelude.{not, slice_index, if◌then◌else◌}
-use Rattle.residency.specs.Cache.{is_resident, letter_in, letter_of, way_of}
+use Rattle.residency.specs.Cache.{is_resident, letter_of}
 use Rattle.cache_sets.specs.Cached.{bytes_of}
 use Rattle.cache_sets.specs.Slotted.{lent}
-use Rattle.residency.specs.Residency.{Way}
+pub use Rattle.coherence.proofs.Laws.GivenBackLaws.{readable_there}
 use Rattle.coherence.proofs.Laws.GivenBackLaws.{copy_tells}
 use Rattle.coherence.proofs.Laws.Offered.{lent_at}
 use Rattle.coherence.specs.Beginning.{line_of}
@@ -26,15 +26,6 @@ use Rattle.step_rules.proofs.CommittedWords.{committed_word}
 use Rattle.step_rules.specs.Actions.{swap_over}
 use Rattle.step_rules.specs.Rules.{IsOnLine, beginning_rule, touching_rule}
 use Rattle.step_rules.specs.declared.upcoming.Exchange as exchanges
-
--- a line that may be read is there
-pub readable_there : (cache : List (List Way)) (line : ℕ) → may_read (letter_of cache line) ≡ true →
-    is_resident cache line ≡ true
-readable_there cache line may = by (way_of cache line) may
-  where
-    by : (way : Option Way) → may_read (letter_in way) ≡ true → is_some way ≡ true
-    by None is = absurd (cc)
-    by (Some way) is = refl
 
 pub touching_same : (state : ModelState) (h : ℕ) (touch : Option Touch) →
     touching_rule (cache_of state h) touch ≡ touch_rule state h touch

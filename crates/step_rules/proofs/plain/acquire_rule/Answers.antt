@@ -16,5 +16,5 @@ pub returns-in-Some-reserve_of-clause-old : goal.returns-in-Some-reserve_of-clau
 returns-in-Some-reserve_of-clause-old c = λ state shows told on_line next.
     let h = c.args.hart.number in
     c.reserve_rule.ensures.old state shows told on_line
-    (reserve_from c.args.action.now state.committed h c.in-Some-reserve_of.word next
+    (reserve_from c.args.action.now state.committed h c.in-Some-reserve_of.address next
     (c.in-Some-reserve_of.ensures.next state.committed h next))

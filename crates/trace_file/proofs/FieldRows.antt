@@ -1,10 +1,10 @@
 -- Fields that stand one behind the other.
-use Rattle.std.proofs.Common.{◌≡◌, ℕ, ◌+◌, ◌≤◌, Bool, true, false, not, ltb, List, [], ◌∷◌, ◌++◌, length, drop, None}
+use Rattle.std.proofs.Common.{◌≡◌, ℕ, ◌+◌, ◌≤◌, true, not, ltb, List, [], ◌∷◌, ◌++◌, length, drop, None}
 use Rattle.std.proofs.Common.{refl, sym, ap, ◌∙◌, arith}
 use Rattle.std.proofs.lemmas.Bool.{le-ltb, ltb-false, not-false}
 use Rattle.std.proofs.lemmas.List.{drop_at, drop-drop, length-append, length-drop}
-use Rattle.el_base.specs.Firsts.{some_if}
 use Rattle.el_base.proofs.Laws.Options.{both_none, cond_none, or_none}
+use Rattle.file_numbers.proofs.Laws.Fields.{passes_if}
 use Rattle.trace_file.specs.FaultKinds.{fault_of}
 use Rattle.trace_file.specs.Fields.{Field, widths}
 use Rattle.trace_file.specs.Faults.{field_fault, fields_fault}
@@ -60,11 +60,8 @@ pub field_passes : (place : ℕ) (bytes : List ℕ) (one : Field) → one.width 
     field_fault place bytes one ≡ None
 unfolding field_fault
 field_passes place bytes one whole passes =
-    rw (le-ltb (length bytes) one.width whole) (passing (one.passes bytes) passes)
-  where
-    passing : (holds : Bool) → holds ≡ true → some_if (not holds) (fault_of one.kind place) ≡ None
-    passing true is = refl
-    passing false is = absurd cc
+    rw (le-ltb (length bytes) one.width whole)
+    (passes_if (not (one.passes bytes)) (fault_of one.kind place) (ap not passes))
 
 -- what fills the fields has no fault, and what follows it is behind the fields
 pub filled : (place : ℕ) (fields : List Field) (parts : List (List ℕ)) (rest : List ℕ) → Fill fields parts rest →

@@ -16,7 +16,6 @@ use Rattle.el_base.specs.Config.{allows}
 use Rattle.el_base.specs.declared.config.ConfigFault.TheVariants.{Harts, Sets, Ways, Lines, Long, Steps}
 use Rattle.el_base.specs.declared.config.TheConstants.{MAX_STEPS}
 use Rattle.el_base.specs.declared.hart_id.TheConstants.{MAX_HARTS}
-use Rattle.el_base.specs.Firsts.{some_if}
 use Rattle.el_base.proofs.Laws.Ranges.{Ranges, ranges, at_most}
 use Rattle.el_base.proofs.Laws.Options.{both_none}
 use Rattle.el_base.specs.declared.events.Event.{Event}
@@ -24,13 +23,12 @@ use Rattle.el_base.specs.declared.config.Config.{Config}
 use Rattle.el_base.specs.declared.config.Mode.{Mode}
 use Rattle.el_base.specs.declared.config.Mode.TheVariants.{Plain, Sle, Tlr}
 use Rattle.el_base.specs.declared.outcomes.Outcome.{Outcome}
-use Rattle.trace_file.specs.declared.fault.FaultKind.{FaultKind}
 use Rattle.trace_file.specs.declared.fault.FaultKind.TheVariants.{Config as config_kind, Version}
 use Rattle.el_base.specs.Modes.{mode_number}
 use Rattle.trace_file.specs.Spelling.{head, spelling, event_byte, outcomes, recorded_bytes, version_of, IsTrace}
 use Rattle.trace_file.specs.FaultKinds.{fault_of}
 use Rattle.trace_file.specs.Fields.{is_event}
-use Rattle.file_numbers.proofs.Laws.Fields.{field_passes}
+use Rattle.file_numbers.proofs.Laws.Fields.{field_passes, passes_if}
 use Rattle.file_numbers.specs.Numbers.{number_at}
 use Rattle.trace_file.specs.Codes.{mode_at}
 use Rattle.trace_file.specs.Faults.{byte_fault, magic_fault, version_fault, settings_fault, number_fault}
@@ -42,22 +40,19 @@ use Rattle.trace_file.proofs.EntryLaws.{entries_again, event_back, event_passes}
 
 -- ---- fields without a fault
 
-holds_passes : (holds : Bool) (kind : FaultKind) (place : ℕ) → holds ≡ true →
-    some_if (not holds) (fault_of kind place) ≡ None
-holds_passes true kind place e = refl
-holds_passes false kind place e = absurd cc
-
 byte_passes : (file : List ℕ) (place : ℕ) (test : ℕ → Bool) → place + 1 ≤ length file →
     test (get_or file place 0) ≡ true → byte_fault file place test ≡ None
 unfolding byte_fault
 byte_passes file place test whole passed =
-    field_passes _ file (place + 1) _ whole (holds_passes (test (get_or file place 0)) config_kind place passed)
+    field_passes _ file (place + 1) _ whole
+    (passes_if (not (test (get_or file place 0))) (fault_of config_kind place) (ap not passed))
 
 number_passes : (file : List ℕ) (place : ℕ) (test : ℕ → Bool) → place + 4 ≤ length file →
     test (number_at file place) ≡ true → number_fault file place test ≡ None
 unfolding number_fault
 number_passes file place test whole passed =
-    field_passes _ file (place + 4) _ whole (holds_passes (test (number_at file place)) config_kind place passed)
+    field_passes _ file (place + 4) _ whole
+    (passes_if (not (test (number_at file place))) (fault_of config_kind place) (ap not passed))
 
 -- ---- what stands in a head, whatever follows it
 
@@ -115,7 +110,7 @@ head_passes version count c tail known r few =
     in
     both_none (magic_fault file) _ (field_passes _ file 4 _ (omega arith) refl)
     (both_none (version_fault file) _
-    (field_passes _ file 5 _ (omega arith) (holds_passes (is_version version) Version 4 known))
+    (field_passes _ file 5 _ (omega arith) (passes_if (not (is_version version)) (fault_of Version 4) (ap not known)))
     (both_none (settings_fault file) _ (settings_pass version count c tail r)
     (both_none (number_fault file 18 (is_few (number_at file 14))) None
     (number_passes file 18 (is_few (number_at file 14)) (omega arith) count-in) refl)))

@@ -106,63 +106,44 @@ fn run<'a>(alloc: Global) -> Result<Command<'a>, AllocError> {
         .arg("random")?
         .arg("order")?
         .required(true);
+    let settings = settings(alloc)?;
+    let scheduled = scheduled(alloc)?;
     Command::new(alloc, "run")
         .about("Runs an image by another schedule than the round robin")
-        .args(vec![in alloc;
-            positional(alloc, "image", "IMAGE", "The image, an ELF file"),
-            choice(
-                alloc,
-                "mode",
-                &MODES,
-                "How an acquire is treated [default: tlr]"
-            ),
-            number(alloc, "harts", 1, 8, "Harts, 1 to 8 [default: 1]"),
-            choice(alloc, "sets", &SETS, "Sets in each cache [default: 16]"),
-            number(
-                alloc,
-                "ways",
-                1,
-                8,
-                "Lines in each set, 1 to 8 [default: 4]"
-            ),
-            number(
-                alloc,
-                "lines",
-                1,
-                32,
-                "The most lines that a section may write [default: 16]"
-            ),
-            number(
-                alloc,
-                "long",
-                2,
-                65_536,
-                "The most instructions of a section [default: 2000]"
-            ),
-            number(
-                alloc,
-                "steps",
-                1,
-                16_777_216,
-                "The most events [default: 4000000]"
-            ),
-            number(
-                alloc,
-                "random",
-                0,
-                u64::MAX,
-                "Draws the events from this number"
-            )
-            .value_name("SEED"),
-            option(
-                alloc,
-                "order",
-                "Takes the events from this file: lines such as 'step 0'"
-            )
-            .value_name("FILE"),
-            option(alloc, "trace", "Writes the trace to this file").value_name("FILE"),
-        ]?)?
+        .arg(positional(alloc, "image", "IMAGE", "The image, an ELF file"))?
+        .args(settings)?
+        .args(scheduled)?
         .group(schedule)
+}
+
+/// The options of a configuration.
+fn settings<'a>(alloc: Global) -> Result<Vec<Arg<'a>>, AllocError> {
+    let mode = "How an acquire is treated [default: tlr]";
+    let ways = "Lines in each set, 1 to 8 [default: 4]";
+    let lines = "The most lines that a section may write [default: 16]";
+    let long = "The most instructions of a section [default: 2000]";
+    let steps = "The most events [default: 4000000]";
+    Ok(vec![in alloc;
+        choice(alloc, "mode", &MODES, mode),
+        number(alloc, "harts", 1, 8, "Harts, 1 to 8 [default: 1]"),
+        choice(alloc, "sets", &SETS, "Sets in each cache [default: 16]"),
+        number(alloc, "ways", 1, 8, ways),
+        number(alloc, "lines", 1, 32, lines),
+        number(alloc, "long", 2, 65_536, long),
+        number(alloc, "steps", 1, 16_777_216, steps),
+    ]?)
+}
+
+/// The options that say which events are made, and where the trace goes.
+fn scheduled<'a>(alloc: Global) -> Result<Vec<Arg<'a>>, AllocError> {
+    let random = "Draws the events from this number";
+    let order = "Takes the events from this file: lines such as 'step 0'";
+    let trace = "Writes the trace to this file";
+    Ok(vec![in alloc;
+        number(alloc, "random", 0, u64::MAX, random).value_name("SEED"),
+        option(alloc, "order", order).value_name("FILE"),
+        option(alloc, "trace", trace).value_name("FILE"),
+    ]?)
 }
 
 /// A command over an image and a trace.

@@ -7,6 +7,7 @@ use Rattle.std.proofs.lemmas.List.{append-nil}
 use Rattle.el_base.specs.Firsts.{some_if}
 use Rattle.el_base.specs.declared.entries.Entry.{Entry}
 use Rattle.el_base.specs.declared.file_fault.FileFault.{FileFault}
+use Rattle.el_base.proofs.Laws.Options.{or_none}
 use Rattle.trace_file.specs.FaultKinds.{fault_of}
 use Rattle.trace_file.specs.declared.fault.FaultKind.TheVariants.{Tail}
 use Rattle.trace_file.specs.Faults.{entries_fault, entry_fault}
@@ -40,11 +41,8 @@ fault_here harts left less place bytes fault more is =
 pub first_passes : (harts left less place : ℕ) (bytes : List ℕ) → left ≡ suc less →
     entries_fault harts left place bytes ≡ None → entry_fault harts place bytes ≡ None
 first_passes harts left less place bytes more none =
-    by (entry_fault harts place bytes) _ (sym (ap (λ (n : ℕ). entries_fault harts n place bytes) more) ∙ none)
-  where
-    by : (a b : Option FileFault) → option_or a b ≡ None → a ≡ None
-    by None b is = refl
-    by (Some fault) b is = absurd cc
+    (or_none (entry_fault harts place bytes) _
+    (sym (ap (λ (n : ℕ). entries_fault harts n place bytes) more) ∙ none)).0
 
 -- the first of the entries
 pub read_more : (harts left less width : ℕ) (bytes : List ℕ) (entry : Entry) → left ≡ suc less →

@@ -4,7 +4,7 @@ use Rattle.std.proofs.Common.{get_or, take, Option, Some}
 use Rattle.std.proofs.Common.{None, IsTrue, refl, sym, ap, ◌∙◌, inl, inr, arith}
 use Rattle.std.specs.Prelude.{All}
 use Rattle.std.specs.List.{position, position_or_len}
-use Rattle.std.proofs.lemmas.Bool.{cases_lt, le-ltb}
+use Rattle.std.proofs.lemmas.Bool.{cases_lt, le-ltb, not-true}
 use Rattle.std.proofs.lemmas.Bool.Decides.{nat_tests}
 use Rattle.std.proofs.lemmas.List.{length-map, take_all}
 use Rattle.std.proofs.lemmas.List.Sums.{passes_at_first}
@@ -17,6 +17,7 @@ use Rattle.el_base.specs.declared.config.ConfigFault.TheVariants.{Harts, Sets, W
 use Rattle.el_base.specs.declared.config.TheConstants.{MAX_STEPS}
 use Rattle.el_base.specs.declared.hart_id.TheConstants.{MAX_HARTS}
 use Rattle.el_base.proofs.Laws.Ranges.{Ranges, ranges, at_most}
+use Rattle.el_base.proofs.Laws.Cases.{not_both}
 use Rattle.el_base.proofs.Laws.Options.{both_none}
 use Rattle.el_base.specs.declared.events.Event.{Event}
 use Rattle.el_base.specs.declared.config.Config.{Config}
@@ -117,10 +118,6 @@ head_passes version count c tail known r few =
 
 -- ---- events without outcomes
 
-not_both : (b : Bool) → b ≡ true → not b ≡ true → ⊥
-not_both true passes fails = absurd cc
-not_both false passes fails = absurd cc
-
 none_other : (test : ℕ → Bool) (xs : List ℕ) → All (λ x. IsTrue (test x)) xs → position (λ x. not (test x)) xs ≡ None
 none_other test xs each =
     let p : ℕ → Bool = λ x. not (test x) in
@@ -128,7 +125,7 @@ none_other test xs each =
       | inl found ↦
           let bad : not (test (get_or xs (position_or_len p xs) 0)) ≡ true = passes_at_first p xs 0 found in
           let good : test (get_or xs (position_or_len p xs) 0) ≡ true = each (position_or_len p xs) 0 found in
-          absurd (not_both _ good bad)
+          not_both good (not-true _ bad)
       | inr past ↦ rw (le-ltb (position_or_len p xs) (length xs) past) refl
     ]
 

@@ -120,6 +120,13 @@ module _ (old between new : Pooled) (cache : caches.Slotted) (hold after : holds
         (beside_cache cache.owner hold.owner between new written.others);
   }
 
+-- each line that was held is there
+drained_there : (hold now : Held) (cache new : Cached) (line : ℕ) → HoldsMarked cache.residency hold.entries →
+    AreDrained hold now cache new → holds_line hold.entries line ≡ true → is_resident new.residency line ≡ true
+drained_there hold now cache new line marked far held =
+    subst (λ residency. is_resident residency line ≡ true) (sym far.residency)
+    (resident_with_bit cache.residency line (marked line held))
+
 -- one line more
 module _ (hold now next : Held) (cache filled new : Cached) (line : ℕ)
     (marked : HoldsMarked cache.residency hold.entries)
@@ -137,13 +144,9 @@ module _ (hold now next : Held) (cache filled new : Cached) (line : ℕ)
   written : IsWritten filled new line after
   written = more.written
 
-  there : (l : ℕ) → holds_line hold.entries l ≡ true → is_resident filled.residency l ≡ true
-  there l held_first =
-      subst (λ residency. is_resident residency l ≡ true) (sym far.residency)
-      (resident_with_bit cache.residency l (marked l held_first))
-
   elsewhere : (l : ℕ) → l ≢ line → holds_line hold.entries l ≡ true → bytes_of new l ≡ bytes_of filled l
-  elsewhere l other held_first = other_bytes filled new l (there l held_first) (written.others l other)
+  elsewhere l other held_first = other_bytes filled new l
+      (drained_there hold now cache filled l marked far held_first) (written.others l other)
 
   shown_here : (place : ℕ) → place < LINE_BYTES → seen_at next.entries line (bytes_of new line) place ≡ seen_at
       hold.entries line (bytes_of cache line) place
@@ -250,9 +253,6 @@ module _ (hold now : Held) (cache filled new : Cached) (marked : HoldsMarked cac
   bit : (line : ℕ) → write_bit filled.residency line ≡ write_bit cache.residency line
   bit line = ap (λ residency. write_bit residency line) far.residency
 
-  filled_there : (line : ℕ) → holds_line hold.entries line ≡ true → is_resident filled.residency line ≡ true
-  filled_there line is = resident_with_bit filled.residency line (bit line ∙ marked line is)
-
   copy : (line : ℕ) → holds_line hold.entries line ≡ true →
       copy_in new line ≡ option_map (copy_with_letter M) (copy_in filled line)
   copy line is = done.written line (bit line ∙ marked line is)
@@ -260,7 +260,7 @@ module _ (hold now : Held) (cache filled new : Cached) (marked : HoldsMarked cac
   same : (line : ℕ) → holds_line hold.entries line ≡ true → bytes_of new line ≡ bytes_of filled line
   same line is =
       modified_bytes (way_of filled.residency line) (way_of new.residency line) (bytes_of new line)
-      (bytes_of filled line) (filled_there line is)
+      (bytes_of filled line) (drained_there hold now cache filled line marked far is)
       (copy line is)
 
   other : (line : ℕ) → holds_line hold.entries line ≡ false → (written : Bool) →
@@ -281,7 +281,7 @@ module _ (hold now : Held) (cache filled new : Cached) (marked : HoldsMarked cac
     held =
         λ line is. modified_copy (way_of filled.residency line) (way_of new.residency line) (bytes_of new line)
         (bytes_of filled line)
-        (filled_there line is) (copy line is);
+        (drained_there hold now cache filled line marked far is) (copy line is);
     size = λ line is. ap length (same line is) ∙ far.size line is (ap (λ entries. holds_line entries line) nothing);
     bytes = λ line place is below. ap (λ bytes. slice_index bytes place) (same line is)
         ∙ sym (ap (λ entries. seen_at entries line (bytes_of filled line) place) nothing)

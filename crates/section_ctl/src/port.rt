@@ -48,7 +48,7 @@ impl Port for SectionPort<'_> {
             && match need {
                 Need::Read => self.sets.bits(line) != Bits::empty(),
                 Need::Write => {
-                    self.sets.bits(line).contains(Bits::WRITE) && self.hold.has_room_for(line)
+                    self.sets.bits(line).has(Need::Write) && self.hold.has_room_for(line)
                 }
             }
     }

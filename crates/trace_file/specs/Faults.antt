@@ -1,7 +1,7 @@
 -- The faults of a trace: the file is read from left to right, each field is judged as soon as it is
 -- whole, and the first fault is the answer.
-use Rattle.std.specs.Prelude.{ℕ, zero, suc, ◌+◌, Bool, not, ◌==◌, nat_lt, nat_le, if◌then◌else◌, List, [], ◌∷◌, length}
-use Rattle.std.specs.Prelude.{take, drop, slice_index}
+use Rattle.std.specs.Prelude.{◌≡◌, ◌<◌, ℕ, zero, suc, ◌+◌, Bool, not, ◌==◌, nat_lt, nat_le, if◌then◌else◌, List, []}
+use Rattle.std.specs.Prelude.{◌∷◌, length, take, drop, slice_index}
 use Rattle.std.specs.Prelude.{Option, Some, None, position}
 use Rattle.std.specs.Option.{option_map, option_or}
 use Rattle.el_base.specs.Config.{allows, within}
@@ -20,6 +20,10 @@ use Rattle.trace_file.specs.Fields.{Field, entry_fields, entry_width, is_event}
 -- a field that ends at this place: the file ends in it, or it has this fault, if it has one
 abbrev pub field : List ℕ → ℕ → Option FileFault → Option FileFault
 field = field_by (fault_of Short)
+
+-- the fault of a field of so many bytes that is not whole in these, which stand at a place of the file
+abbrev pub IsShort : List ℕ → ℕ → ℕ → FileFault → Type 0
+IsShort bytes width place fault = (length bytes < width) × (fault ≡ fault_of Short (place + length bytes))
 
 -- the byte at a place is not the one that is wanted there
 abbrev pub wrong : List ℕ → ℕ → ℕ → FaultKind → Option FileFault

@@ -9,10 +9,10 @@ ghost use Rattle.trace_file.specs.Reading.{entries_in, entry_in, event_in, outco
 ghost use Rattle.trace_file.specs.Spelling.{outcomes};
 
 use crate::fault::FaultKind;
-use crate::fields::{behind, expect};
+use crate::fields::{behind, expect, is_whole};
 use crate::head::HEAD_BYTES;
 use crate::outcome_fields::{
-    blocking_of, cause_of, committed_of, freed_of, is_whole, let_go_of, line_of, losers_of,
+    blocking_of, cause_of, committed_of, freed_of, let_go_of, line_of, losers_of,
 };
 use crate::reading::{event_of, is_event};
 use el_base::{Entry, Event, FileFault, Need, NoMemory, Outcome};

@@ -1,27 +1,34 @@
 //! Single fields of a trace, each judged as soon as it is whole.
 
-ghost use Rattle.std.specs.Prelude.{◌≡◌, ◌+◌, ◌<◌, ◌≤◌, None, Some, IsTrue, not, drop, length, slice_index, IfErr, IfOk, OnOk};
+ghost use Rattle.std.specs.Prelude.{◌≡◌, ◌+◌, ◌^◌, ◌<◌, ◌≤◌, None, Some, IsTrue, not, drop, length, slice_index, IfErr, IfOk, OnOk};
 ghost use Rattle.el_base.specs.Config.{allows};
 ghost use Rattle.el_base.specs.Firsts.{some_if};
 ghost use Rattle.file_numbers.specs.Numbers.{number_at};
 ghost use Rattle.trace_file.specs.FaultKinds.{fault_of};
-ghost use Rattle.trace_file.specs.Faults.{byte_fault, field, number_fault};
+ghost use Rattle.trace_file.specs.Faults.{IsShort, byte_fault, number_fault};
 
 use crate::fault::FaultKind;
 use el_base::{ConfigFault, FileFault, FormatFault};
 use file_numbers::number_at;
 
-/// That the file does not end before this place.
-#[tactic(auto, unfolding(file_numbers::specs::Fields::field_by))]
-pub fn reaches(file: &[u8], end: u32) -> Result<(), FileFault>
-    ensures whole { OnOk result (end ≤ length file.now) }
-    ensures refused { IfErr result (λ fault.
-        (length file.now < end) × (fault ≡ fault_of FaultKind.Short (length file.now))) }
+/// That a field of so many bytes is whole, where these bytes stand at a place of the file.
+pub fn is_whole(bytes: &[u8], width: usize, place: u32) -> Result<(), FileFault>
+    requires { place + width < 2 ^ 32 }
+    ensures whole { OnOk result (width ≤ length bytes.now) }
+    ensures refused { IfErr result (IsShort bytes.now width place) }
 {
-    if file.len() < end as usize {
-        return Err(FaultKind::Short.at(file.len() as u32));
+    if bytes.len() < width {
+        return Err(FaultKind::Short.at(place + bytes.len() as u32));
     }
     Ok(())
+}
+
+/// That the file does not end before this place.
+pub fn reaches(file: &[u8], end: u32) -> Result<(), FileFault>
+    ensures whole { OnOk result (end ≤ length file.now) }
+    ensures refused { IfErr result (IsShort file.now end 0) }
+{
+    is_whole(file, end as usize, 0)
 }
 
 /// What stands behind so many bytes.

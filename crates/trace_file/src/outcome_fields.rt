@@ -9,17 +9,16 @@ ghost use Rattle.el_base.specs.HartId.{hart_id};
 ghost use Rattle.el_base.specs.LineAddr.{line_addr};
 ghost use Rattle.el_base.specs.NibblePairs.{nibble_in};
 ghost use Rattle.trace_file.specs.Codes.{cause_at, why_at};
-ghost use Rattle.trace_file.specs.FaultKinds.{fault_of};
-ghost use Rattle.trace_file.specs.Faults.{field_fault};
+ghost use Rattle.trace_file.specs.Faults.{IsShort, field_fault};
 ghost use Rattle.trace_file.specs.Fields.{are_nibbles, byte_field, freed_field, is_blocking, is_cause, is_line, losers_field, most_for, number_field};
 ghost use Rattle.trace_file.specs.Outcomes.{most_committed, most_let_go};
 ghost use Rattle.trace_file.specs.Reading.{freed_in, losers_in};
 
 use crate::codes::{self, why_of};
 use crate::fault::FaultKind;
-use crate::fields::expect;
+use crate::fields::{expect, is_whole};
 use byteorder::{ByteOrder, LittleEndian};
-use el_base::{Cause, FileFault, FormatFault, Freed, HartId, LineAddr, Losers, MAX_HARTS, Why};
+use el_base::{Cause, FileFault, Freed, HartId, LineAddr, Losers, MAX_HARTS, Why};
 
 /// The most instructions that a section commits.
 const MAX_COMMITTED: u32 = 65_536;
@@ -33,25 +32,11 @@ const LAST_LINE: u32 = 0x03ff_ffff;
 /// The last number of a cause.
 const LAST_CAUSE: u8 = 4;
 
-/// That a field of so many bytes is whole.
-pub fn is_whole(bytes: &[u8], width: usize, place: u32) -> Result<(), FileFault>
-    requires { place + width < 2 ^ 32 }
-    ensures whole { OnOk result (width ≤ length bytes.now) }
-    ensures refused { IfErr result (λ fault.
-        (length bytes.now < width) × (fault ≡ fault_of FaultKind.Short (place + length bytes.now))) }
-{
-    if bytes.len() < width {
-        return Err(FaultKind::Short.at(place + bytes.len() as u32));
-    }
-    Ok(())
-}
-
 /// The byte of a field of one byte, and the number of one of four.
 fn byte_of(bytes: &[u8], place: u32) -> Result<u8, FileFault>
     requires { place + 1 < 2 ^ 32 }
     ensures whole { IfOk result (λ byte. (1 ≤ length bytes.now) × (byte ≡ slice_index bytes.now 0)) }
-    ensures refused { IfErr result (λ fault.
-        (length bytes.now < 1) × (fault ≡ fault_of FaultKind.Short (place + length bytes.now))) }
+    ensures refused { IfErr result (IsShort bytes.now 1 place) }
 {
     is_whole(bytes, 1, place)?;
     Ok(bytes[0])
@@ -60,8 +45,7 @@ fn byte_of(bytes: &[u8], place: u32) -> Result<u8, FileFault>
 fn number_of(bytes: &[u8], place: u32) -> Result<u32, FileFault>
     requires { place + 4 < 2 ^ 32 }
     ensures whole { IfOk result (λ number. (4 ≤ length bytes.now) × (number ≡ little_number 4 bytes.now)) }
-    ensures refused { IfErr result (λ fault.
-        (length bytes.now < 4) × (fault ≡ fault_of FaultKind.Short (place + length bytes.now))) }
+    ensures refused { IfErr result (IsShort bytes.now 4 place) }
 {
     is_whole(bytes, 4, place)?;
     Ok(LittleEndian::read_u32(bytes))

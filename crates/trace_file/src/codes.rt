@@ -17,15 +17,15 @@ pub fn mode_of(number: u8) -> Mode
 }
 
 /// The kind of a number up to 3.
-#[tactic(auto, unfolding(crate::specs::Codes::kind_at))]
+#[tactic(auto, using(crate::proofs::EventBytes::kind_back))]
 pub fn kind_of(number: u8) -> Kind
+    requires { number ≤ 3 }
     ensures { result ≡ kind_at number }
 {
-    [Kind::Step, Kind::Order, Kind::Serve]
-        .iter()
-        .copied()
-        .find(|kind| kind.number() == number)
-        .unwrap_or(Kind::Deliver)
+    match Kind::with_number(number) {
+        Some(kind) => kind,
+        None => unreachable!(),
+    }
 }
 
 pub fn cause_code(cause: Cause) -> u8

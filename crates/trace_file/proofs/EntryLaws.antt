@@ -3,7 +3,7 @@ use Rattle.std.proofs.Common.{◌≡◌, ℕ, zero, suc, ◌+◌, ◌*◌, ◌/�
 use Rattle.std.proofs.Common.{length, get_or, drop, None, refl}
 use Rattle.std.proofs.Common.{sym, ap, ◌∙◌, arith, ◌^◌}
 use Rattle.std.specs.Prelude.{All}
-use Rattle.std.proofs.lemmas.Bool.{ltb-false}
+use Rattle.std.proofs.lemmas.Bool.{leb-true, ltb-false}
 use Rattle.std.proofs.lemmas.Bool.Decides.{nat_tests}
 use Rattle.std.proofs.lemmas.List.{drop-drop, get_or-drop, length-drop, nil_from_length}
 use Rattle.std.proofs.lemmas.List.Elements.{All-cons, All-head, All-tail}
@@ -93,9 +93,6 @@ event_back event =
 
 -- ---- an entry that is read
 
-code_known : (code : ℕ) → is_code code ≡ true → code ≤ 14
-code_known code known = grind (arith, nat_tests)
-
 -- an entry without a fault spells the bytes in front
 pub record IsRead (harts : ℕ) (bytes : List ℕ) : Type 0 where
   pub spelled : entry_bytes (entry_in bytes).event (entry_in bytes).outcome
@@ -118,7 +115,7 @@ entry_spelled harts place bytes few fits none =
     ap (λ (l : List ℕ). fields_fault (place + 1 + 1) l fields) (sym behind) ∙ e1.2
     in
     let event = event_spelled harts (get_or bytes 0 0) few e0.1 in
-    let outcome = outcome_spelled harts code (place + 1 + 1) (drop 2 bytes) (code_known code known) few
+    let outcome = outcome_spelled harts code (place + 1 + 1) (drop 2 bytes) (leb-true code 14 known) few
     (bytes_behind 2 bytes fits) later
     in
     let cut : drop (widths fields) (drop 2 bytes) ≡ drop (1 + (1 + widths fields)) bytes =

@@ -3,9 +3,8 @@ use Rattle.std.proofs.Common.{◌≡◌, ℕ, ◌+◌, ◌≤◌, ◌<◌, Bool,
 use Rattle.std.proofs.Common.{drop, zero, suc, None}
 use Rattle.std.proofs.Common.{refl, sym, ap, ◌∙◌, arith}
 use Rattle.std.proofs.Math.Seq.{drop-cons}
-use Rattle.std.proofs.lemmas.Bool.{not-false}
+use Rattle.std.proofs.lemmas.Bool.{leb-true, not-false}
 use Rattle.std.proofs.lemmas.List.{drop-drop, take-append-drop}
-use Rattle.std.proofs.lemmas.Bool.Decides.{nat_tests}
 use Rattle.el_base.specs.Config.{allows}
 use Rattle.el_base.specs.declared.config.ConfigFault.TheVariants.{Harts, Sets, Ways, Lines, Long, Steps}
 use Rattle.el_base.specs.Firsts.{first_of, some_if}
@@ -76,9 +75,6 @@ number_passed file place test none =
     let e = field_none _ file (place + 4) (some_if (not passed) (fault_of config_kind place)) none in
     (e.0, not-false passed (cond_none (not passed) (fault_of config_kind place) None e.1).0)
 
-at_most_two : (n : ℕ) → is_mode n ≡ true → n ≤ 2
-at_most_two n known = grind (arith, nat_tests)
-
 mode_none : (file : List ℕ) → settings_fault file ≡ None →
     mode_number (mode_at (get_or file 6 0)) ≡ get_or file 6 0
 unfolding settings_fault
@@ -89,7 +85,7 @@ mode_none file none =
     (allows Lines) ∷ numbers in
     let e = or_none (byte_fault file 5 (allows Harts)) (first_of (byte_fault file 6 is_mode ∷ behind)) none in
     let mode = or_none (byte_fault file 6 is_mode) (first_of behind) e.1 in
-    mode_again (get_or file 6 0) (at_most_two (get_or file 6 0) (byte_passed file 6 is_mode mode.0))
+    mode_again (get_or file 6 0) (leb-true (get_or file 6 0) 2 (byte_passed file 6 is_mode mode.0))
 
 -- ---- the head
 

@@ -4,7 +4,7 @@ use Rattle.std.proofs.Common.{length, map, get_or, take, drop}
 use Rattle.std.proofs.Common.{Option, Some, None, IsTrue, refl, sym, ap, ◌∙◌, arith}
 use Rattle.std.specs.Prelude.{All}
 use Rattle.std.specs.Option.{option_map}
-use Rattle.std.proofs.lemmas.Bool.{ltb-false, not-false}
+use Rattle.std.proofs.lemmas.Bool.{leb-true, ltb-false, not-false}
 use Rattle.std.proofs.lemmas.Bool.Decides.{nat_tests}
 use Rattle.std.proofs.lemmas.List.{length-drop, length-map}
 use Rattle.std.proofs.lemmas.List.Elements.{All-cons, All-head, All-tail}
@@ -66,9 +66,6 @@ settings_within file none =
 one_or_two : (version : ℕ) → is_version version ≡ true → version ≢ 1 → version ≡ 2
 one_or_two version known other = grind (arith, nat_tests)
 
-few_of : (steps count : ℕ) → is_few steps count ≡ true → count ≤ steps
-few_of steps count few = grind (arith, nat_tests)
-
 harts_few : (file : List ℕ) → Ranges (config_at file) → get_or file 5 0 ≤ 8
 unfolding config_at
 harts_few file r = at_most 1 MAX_HARTS (get_or file 5 0) r.harts
@@ -97,7 +94,7 @@ head_known file fits none =
       version = not-false known (cond_none (not known) (fault_of Version 4) None version.1).0;
       spelled = head_spelled file fits number.0 h0.0 h2.0;
       ranges = r;
-      few = few_of (number_at file 14) (number_at file 18) number.1;
+      few = leb-true (number_at file 18) (number_at file 14) number.1;
       harts = harts_few file r;
     }
 

@@ -3,7 +3,7 @@ use Rattle.std.proofs.Common.{◌≡◌, ℕ, zero, suc, ◌/◌, ◌%◌, ◌�
 use Rattle.std.proofs.Common.{get_or, Option, Some, None}
 use Rattle.std.proofs.Common.{refl, sym, ap, ◌∙◌, min, arith}
 use Rattle.std.specs.Prelude.{IfSome, IsTrue, if◌then◌else◌, nat_lt, nat_le}
-use Rattle.std.proofs.lemmas.Bool.{ltb-true, ltb-false, lt-ltb, and_parts, and_right, and_left, and_from}
+use Rattle.std.proofs.lemmas.Bool.{le-leb, leb-true, ltb-true, ltb-false, lt-ltb, and_parts, and_right, and_left, and_from}
 use Rattle.std.proofs.lemmas.Bool.Decides.{nat_tests}
 use Rattle.std.proofs.lemmas.List.{get_or_append_left}
 use Rattle.el_base.specs.Freed.{count_in, freed_of}
@@ -55,12 +55,6 @@ one_fails zero test h low fails = absurd (omega arith)
 one_fails (suc n) test h low fails =
     last_or_lower_fails n test h (n == h) refl low fails (λ lower. one_fails n test h lower fails)
 
-le_of : (a b : ℕ) → nat_le a b ≡ true → a ≤ b
-le_of a b passes = grind (arith, nat_tests)
-
-le_to : (a b : ℕ) → a ≤ b → nat_le a b ≡ true
-le_to a b small = grind (arith, nat_tests)
-
 not_le : (a b : ℕ) → b < a → nat_le a b ≡ false
 not_le a b great = grind (arith, nat_tests)
 
@@ -84,7 +78,7 @@ pub nibbles_known : (harts most : ℕ) (bytes : List ℕ) → are_nibbles harts 
     nibble_in bytes h ≤ most_for harts most h
 unfolding are_nibbles
 nibbles_known harts most bytes passes h low =
-    le_of (nibble_in bytes h) (most_for harts most h) (each_below 8 (is_nibble harts most bytes) h passes low)
+    leb-true (nibble_in bytes h) (most_for harts most h) (each_below 8 (is_nibble harts most bytes) h passes low)
 
 pub counts_small : (harts : ℕ) (bytes : List ℕ) → IsTrue (are_nibbles harts 15 bytes) → (h : ℕ) → h < 8 →
     nibble_in bytes h ≤ 15
@@ -96,7 +90,7 @@ pub nibbles_pass : (harts most : ℕ) (bytes : List ℕ) → ((h : ℕ) → h < 
 unfolding are_nibbles
 nibbles_pass harts most bytes small =
     sym (all_from_each 8 (is_nibble harts most bytes)
-    (λ h low. le_to (nibble_in bytes h) (most_for harts most h) (small h low)))
+    (λ h low. le-leb (nibble_in bytes h) (most_for harts most h) (small h low)))
 
 pub nibbles_small : (harts : ℕ) (bytes : List ℕ) → harts ≤ 8 → IsTrue (are_nibbles harts harts bytes) → (h : ℕ) →
     h < 8 → nibble_in bytes h ≤ 8

@@ -2,6 +2,7 @@
 use Rattle.std.proofs.Common.{◌≡◌, ℕ, zero, suc, ◌+◌, ◌/◌, ◌%◌, ◌≤◌, ◌<◌, ◌^◌, true, List, [], ◌∷◌, ◌++◌, length}
 use Rattle.std.proofs.Common.{get_or, drop, None, refl, sym, ap}
 use Rattle.std.proofs.Common.{◌∙◌, append_assoc, arith, IsTrue}
+use Rattle.std.proofs.lemmas.Bool.{leb-true}
 use Rattle.std.proofs.lemmas.Bool.Decides.{nat_tests}
 use Rattle.std.proofs.lemmas.List.{drop-drop, take-append-drop}
 use Rattle.std.proofs.Math.Seq.{drop-cons}
@@ -82,9 +83,6 @@ at_most n high passes = grind (arith, nat_tests)
 line_small : (n : ℕ) → is_line n ≡ true → n < 2 ^ 26
 line_small n passes = grind (arith, nat_tests)
 
-cause_small : (n : ℕ) → is_cause n ≡ true → n ≤ 4
-cause_small n passes = grind (arith, nat_tests)
-
 blocking_parts : (harts byte : ℕ) → is_blocking harts byte ≡ true → (byte / 16 ≤ 2) × (byte % 16 < harts)
 blocking_parts harts byte passes = grind (arith, nat_tests)
 
@@ -158,7 +156,7 @@ outcome_spelled harts (suc (suc (suc (suc (suc (suc (suc zero))))))) place bytes
     (number_spelled 7 (little_number 4 bytes) bytes fits e.0 refl, at_most (little_number 4 bytes) most_committed e.1)
 outcome_spelled harts (suc (suc (suc (suc (suc (suc (suc (suc zero)))))))) place bytes known few fits none =
     let e = first_known place bytes (byte_field is_cause) [] none in
-    let again = cause_again (get_or bytes 0 0) (cause_small (get_or bytes 0 0) e.1) in
+    let again = cause_again (get_or bytes 0 0) (leb-true (get_or bytes 0 0) 4 e.1) in
     (ap (λ (l : List ℕ). 8 ∷ l) (one_byte bytes (cause_code (cause_at (get_or bytes 0 0))) e.0 again), tt)
 outcome_spelled harts (suc (suc (suc (suc (suc (suc (suc (suc (suc zero))))))))) place bytes known few fits none =
     let e = both_spelled harts place bytes few fits none in (ap (λ (l : List ℕ). 9 ∷ l) e.0, e.1)

@@ -4,8 +4,7 @@ use Rattle.std.proofs.Common.{get_or, take, Option, Some}
 use Rattle.std.proofs.Common.{None, IsTrue, refl, sym, ap, ◌∙◌, inl, inr, arith}
 use Rattle.std.specs.Prelude.{All}
 use Rattle.std.specs.List.{position, position_or_len}
-use Rattle.std.proofs.lemmas.Bool.{cases_lt, le-ltb, not-true}
-use Rattle.std.proofs.lemmas.Bool.Decides.{nat_tests}
+use Rattle.std.proofs.lemmas.Bool.{cases_lt, le-leb, le-ltb, not-true}
 use Rattle.std.proofs.lemmas.List.{length-map, take_all}
 use Rattle.std.proofs.lemmas.List.Sums.{passes_at_first}
 use Rattle.std.proofs.lemmas.List.Elements.{All-map}
@@ -73,9 +72,6 @@ count_is : (version count : ℕ) (c : Config) (tail : List ℕ) → count < 2 ^ 
     number_at (headed version c count tail) 18 ≡ count
 count_is version count c tail small = little_number-reads_back 4 count tail small
 
-few_pass : (count steps : ℕ) → count ≤ steps → is_few steps count ≡ true
-few_pass count steps few = grind (arith, nat_tests)
-
 mode_passes : (mode : Mode) → is_mode (mode_number mode) ≡ true
 mode_passes Plain = refl
 mode_passes Sle = refl
@@ -107,7 +103,7 @@ head_passes version count c tail known r few =
     let most = at_most 1 MAX_STEPS c.steps r.steps in
     let count-in : is_few (number_at file 14) (number_at file 18) ≡ true =
     rw (steps_is version count c tail (omega arith), count_is version count c tail (omega arith))
-    (few_pass count c.steps few)
+    (le-leb count c.steps few)
     in
     both_none (magic_fault file) _ (field_passes _ file 4 _ (omega arith) refl)
     (both_none (version_fault file) _

@@ -144,16 +144,13 @@ head_right file none =
       whole = (field_none _ file 10 None e3.0).0;
     }
 
-not_over : (limit n : ℕ) → ltb limit n ≡ false → n ≤ limit
-not_over limit n e = ltb-false limit n e
-
 pub output_right : (file : List ℕ) (place : ℕ) → output_fault file place ≡ None →
     (number_at file place ≤ output_limit) × (place + 4 + number_at file place ≤ length file)
 unfolding output_fault
 output_right file place none =
     let e = or_none _ _ none in
     let len = field_right file (place + 4) (ltb output_limit (number_at file place)) kinds.Output place e.0 in (
-      not_over output_limit (number_at file place) len.1,
+      ltb-false output_limit (number_at file place) len.1,
       (field_none _ file (place + 4 + number_at file place) None e.1).0,
     )
 
@@ -173,7 +170,7 @@ pub line_count_right : (file : List ℕ) (place : ℕ) → line_count_fault file
 unfolding line_count_fault
 line_count_right file place none =
     let e = field_right file (place + 4) (ltb most_lines (number_at file place)) kinds.Lines place none in
-    (not_over most_lines (number_at file place) e.1, e.0)
+    (ltb-false most_lines (number_at file place) e.1, e.0)
 
 pub line_count_passes : (file : List ℕ) (place : ℕ) → number_at file place ≤ most_lines → place + 4 ≤ length file →
     line_count_fault file place ≡ None
@@ -185,7 +182,7 @@ line_count_passes file place few whole =
 pub tail_right : (file : List ℕ) (end : ℕ) → tail_fault file end ≡ None → length file ≤ end
 unfolding tail_fault
 tail_right file end none =
-    not_over end (length file) (cond_none (ltb end (length file)) (fault_of kinds.Tail end) None none).0
+    ltb-false end (length file) (cond_none (ltb end (length file)) (fault_of kinds.Tail end) None none).0
 
 pub tail_passes : (file : List ℕ) (end : ℕ) → length file ≤ end → tail_fault file end ≡ None
 unfolding tail_fault

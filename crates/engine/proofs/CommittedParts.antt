@@ -163,7 +163,8 @@ owned from h line reached bit =
 -- the cache of a hart before and after, the bytes of memory before and after, and what is held
 module _ (copies : Copies) (h : ℕ) (cache : Cached) (old done : FlatState) (word : ℕ) (view : HartView)
     (hold : List Entry)
-    (tells : TellsOf copies (line_of old)) (lies : LiesWhere copies.first (length copies.lines) old) (effects : HasEffect old done h word view hold)
+    (tells : TellsOf copies (line_of old)) (lies : LiesWhere copies.first (length copies.lines) old)
+    (effects : HasEffect old done h word view hold)
     (commits_in : HasCommitted (cache_at copies.caches h) cache hold)
     (marked : HoldsMarked (cache_at copies.caches h).residency hold)
     (owns : (line : ℕ) → write_bit (cache_at copies.caches h).residency line ≡ true → may_write (letter_of

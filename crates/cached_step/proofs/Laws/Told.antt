@@ -40,8 +40,9 @@ use Rattle.cached_step.specs.Memory.{TellsMemory}
 use Rattle.cached_step.proofs.Windows.{put-before, put-behind, put-inside}
 
 -- the line of a piece of memory lies there
-piece_line : (copies : Copies) (flat : FlatState) (address len : ℕ) → LiesWhere copies.first (length copies.lines) flat →
-    IsPiece (span_of flat) address len → HasLine copies (line_number address)
+piece_line : (copies : Copies) (flat : FlatState) (address len : ℕ) →
+    LiesWhere copies.first (length copies.lines) flat → IsPiece (span_of flat) address len →
+    HasLine copies (line_number address)
 piece_line copies flat address len placed piece =
     let first : copies.first * 64 ≡ flat.base = placed.first in
     let size : length copies.lines * 64 ≡ length flat.bytes = placed.lines in
@@ -57,8 +58,8 @@ touch_line copies line need touch is there =
     subst (HasLine copies) (ap (λ (t : Option Touch). option_map_or (λ s. s.line) t 0) is) there
 
 pub touched_there : (copies : Copies) (flat : FlatState) (room : ℕ) (action : Action) (touch : Touch) →
-    LiesWhere copies.first (length copies.lines) flat → IsInPlace (span_of flat) room action → touch_of (footprint action) ≡ Some touch →
-    HasLine copies touch.line
+    LiesWhere copies.first (length copies.lines) flat → IsInPlace (span_of flat) room action →
+    touch_of (footprint action) ≡ Some touch → HasLine copies touch.line
 touched_there copies flat room (actions.Append address len) touch placed there is =
     touch_line copies _ _ touch is (piece_line copies flat address len placed there.0)
 touched_there copies flat room (actions.Load width rd address) touch placed there is =

@@ -2,7 +2,7 @@
 use Rattle.std.proofs.Common.{◌≡◌, ◌≢◌, ◌∙◌, ℕ, ◌<◌, ◌%◌, true, length, None, Some, is_some}
 use Rattle.std.proofs.Common.{refl, ap, sym, subst, arith}
 use Rattle.std.specs.Prelude.{slice_set}
-use Rattle.std.proofs.lemmas.List.{get_or-set_other, get_or-set_same, length-set}
+use Rattle.std.proofs.lemmas.List.{get_or-set_same, length-set}
 use Rattle.residency.specs.Cache.{is_resident}
 use Rattle.cache_sets.specs.Slotted.{Slotted}
 use Rattle.coherence.specs.Lent.{slotted_at}
@@ -14,8 +14,8 @@ use Rattle.el_model.proofs.Laws.Harts.{hart_of-with_hart_same}
 use Rattle.el_model.specs.Plain.{Arms, arming_hart, by_plain_rule, plain_rule}
 use Rattle.el_model.specs.State.{Hart, ModelState, hart_of, with_hart}
 use Rattle.engine.proofs.Framed.{beside_same, told_copies, told_same}
-use Rattle.engine.proofs.Misses.{freed_here}
-use Rattle.engine.proofs.Others.{IsSeenAs, seen_same}
+use Rattle.engine.proofs.Misses.{own_cache}
+use Rattle.engine.proofs.Others.{others_kept}
 use Rattle.engine.proofs.Outsiders.{step_is}
 use Rattle.engine.proofs.StandsOutside.{action_is, has_own, idle, inside, is_own, runs, runs_there, view_is}
 use Rattle.engine.proofs.Stepped.{HasStepped, IsBetween, IsCacheOf, after_turn, freed_between, marked_cache}
@@ -28,7 +28,7 @@ use Rattle.hart_state.specs.Deeds.{armed_own}
 use Rattle.hart_state.specs.Own.{HasOwn, OwnState, new_own}
 use Rattle.rv_alu.specs.Loaded.{loaded}
 use Rattle.rv_alu.specs.declared.action.Action.TheVariants as actions
-use Rattle.rv_flat.specs.FlatState.{no_hart, view_of}
+use Rattle.rv_flat.specs.FlatState.{no_hart}
 use Rattle.rv_flat.specs.Memory.{byte_in}
 use Rattle.rv_word.specs.declared.reg.Reg.{Reg}
 use Rattle.section_view.proofs.Laws.Arming.{arms}
@@ -70,8 +70,7 @@ module _ (old : Parts) (bus : BusState) (hart : HartId) (from : ModelState)
       is_resident (slotted_at bus.copies.caches h).residency (line_number word) ≡ true
   still_there there =
       subst (λ cache. is_resident cache (line_number word) ≡ true)
-      (acts.may.is_in.shows.caches h ∙ ap (λ k. k.cache) (freed_here from h (inside old h from acts))
-      ∙ sym (noted_armed.shows.caches h ∙ ap (λ k. k.cache) noted_armed.here))
+      (own_cache old from h acts.may ∙ sym (noted_armed.shows.caches h ∙ ap (λ k. k.cache) noted_armed.here))
       there
 
   module _ (cache : Slotted) (marks : IsReadMarked (slotted_at bus.copies.caches h) cache (line_number word)) where
@@ -152,9 +151,7 @@ module _ (old : Parts) (bus : BusState) (hart : HartId) (from : ModelState)
             each = length-set old.harts h own;
             own =
                 subst (IsOfHart old.pool state h) (sym (get_or-set_same old.harts h own none acts.may.exists)) own_now;
-            others = λ g other exists. subst (λ o. IsSeenAs (own_at old.harts g) o (view_of from.committed g))
-                (sym (get_or-set_other old.harts h g own none other))
-                (seen_same (own_at old.harts g) (view_of from.committed g) (acts.may.is_in.harts g exists).view);
+            others = others_kept old h from own from.committed acts.may (λ g other. refl);
           }
 
       pub armed_in : IsInState (record old { bus = returned bus h cache; harts = slice_set old.harts h own })

@@ -2,7 +2,7 @@
 use Rattle.std.proofs.Common.{◌≡◌, ◌∙◌, ℕ, suc, ◌%◌, ◌<◌, true, List, [], length, Some, None, is_some, refl, ap, sym}
 use Rattle.std.proofs.Common.{subst}
 use Rattle.std.specs.Prelude.{slice_set}
-use Rattle.std.proofs.lemmas.List.{get_or-set_other, get_or-set_same, length-set, set-set}
+use Rattle.std.proofs.lemmas.List.{get_or-set_same, length-set}
 use Rattle.residency.proofs.Laws.MarkLemmas.{has_marks-marked, has_marks-touched}
 use Rattle.residency.proofs.Laws.WellFormedLemmas.{well_formed-marked}
 use Rattle.residency.specs.Cache.{has_marks, is_resident, marked, touched}
@@ -18,14 +18,14 @@ use Rattle.el_model.specs.Attempts.{open_attempt}
 use Rattle.el_model.specs.Plain.{Begins, armed_count, began_hart, by_plain_rule, plain_rule}
 use Rattle.el_model.specs.State.{Hart, ModelState, cache_of, hart_of, with_hart}
 use Rattle.el_model.specs.Upcoming.{Swap}
-use Rattle.engine.proofs.Chosen.{begins_not_plain, lock_there, next, own_cache, swap_found}
+use Rattle.engine.proofs.Chosen.{begins_not_plain, lock_there, next, swap_found}
 use Rattle.engine.proofs.Framed.{beside_same, holds_none, told_copies, told_same}
-use Rattle.engine.proofs.Others.{IsSeenAs, seen_same}
+use Rattle.engine.proofs.Misses.{own_cache, set_twice}
+use Rattle.engine.proofs.Others.{others_kept}
 use Rattle.engine.proofs.Outsiders.{step_is}
 use Rattle.engine.proofs.StandsOutside.{has_cache, has_own, idle, inside, is_own, runs, runs_there, view_is}
 use Rattle.engine.proofs.Stepped.{HasStepped, IsCacheOf, after_turn, freed_between, marked_formed, ready_between}
-use Rattle.engine.proofs.Stepped.{shows_between}
-use Rattle.engine.proofs.Stepped.{stays_in_place}
+use Rattle.engine.proofs.Stepped.{agent_unarmed, shows_between, stays_in_place}
 use Rattle.engine.specs.Acting.{ActsOutside, MayAct, next_action, sets_in}
 use Rattle.engine.specs.Beginning.{BeganIn, IsReadMarked}
 use Rattle.engine.specs.Parts.{IsInState, IsOfHart, KeepsSectionOf, Parts, own_at, present_at}
@@ -36,7 +36,7 @@ use Rattle.pair_table.specs.Predictor.{unwatched}
 use Rattle.rv_alu.specs.Execution.{put_of, release_of}
 use Rattle.rv_alu.specs.declared.action.Action.{Action}
 use Rattle.rv_alu.specs.declared.action.Action.TheVariants as actions
-use Rattle.rv_flat.specs.FlatState.{no_hart, view_of}
+use Rattle.rv_flat.specs.FlatState.{no_hart}
 use Rattle.rv_word.specs.declared.insn.AmoOp.{AmoOp}
 use Rattle.rv_word.specs.declared.reg.Reg.{Reg}
 use Rattle.section_ctl.specs.State.{hold_in}
@@ -86,8 +86,7 @@ opened_state state h swap below =
     ap (λ hart. with_hart (with_hart state h (entered swap (hart_of state h))) h
     (open_attempt state.config.mode h hart))
     (hart_of-with_hart_same state h (entered swap (hart_of state h)) below)
-    ∙ ap (λ harts. record state { harts = harts })
-    (set-set state.harts h (entered swap (hart_of state h)) (began_hart state.config.mode h swap (hart_of state h)))
+    ∙ set_twice state h (entered swap (hart_of state h)) (began_hart state.config.mode h swap (hart_of state h))
 
 -- where the hart keeps what is its own then, and the bus shows the state, the parts have come to be in it
 pub began_stepped : (old : Parts) (h : ℕ) (state : ModelState) (swap : Swap) (bus : BusState) (own : OwnState) →
@@ -108,9 +107,7 @@ began_stepped old h state swap bus own may shows told is =
       own =
           subst (IsOfHart old.pool (state_began state h swap) h)
           (sym (get_or-set_same old.harts h own none may.exists)) is;
-      others = λ g other exists. subst (λ o. IsSeenAs (own_at old.harts g) o (view_of state.committed g))
-          (sym (get_or-set_other old.harts h g own none other))
-          (seen_same (own_at old.harts g) (view_of state.committed g) (may.is_in.harts g exists).view);
+      others = others_kept old h state own state.committed may (λ g other. refl);
     }
 
 module _ (parts : Parts) (h : ℕ) (state : ModelState) (action : Action) (acts : ActsOutside parts h state)
@@ -128,16 +125,14 @@ module _ (parts : Parts) (h : ℕ) (state : ModelState) (action : Action) (acts 
     ways = read.ways;
     residency =
         ap (λ c. touched (marked c (line_number swap.word) Read) (line_number swap.word))
-        (sym (own_cache parts h state action acts is))
+        (sym (own_cache parts state h acts.may))
         ∙ sym read.residency;
     live = sym (lives_unarmed cache.residency 0 refl ∙ bits);
   }
 
   -- the bus keeps the same of it, since it was not armed
   agent_stays : agent_of (entered swap (hart_of state h)) ≡ agent_of (record (hart_of state h) { held_line = None })
-  agent_stays =
-      ap (λ armed. record (agent_of (record (hart_of state h) { held_line = None })) { armed = armed_count armed })
-      (sym acts.no_armed)
+  agent_stays = agent_unarmed (record (hart_of state h) { held_line = None }) acts.no_armed
 
   -- the bus shows it, and is ready
   pub entered_shows : Shows (returned parts.bus h cache) (with_hart state h (entered swap (hart_of state h)))

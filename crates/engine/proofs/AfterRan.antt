@@ -42,9 +42,10 @@ use Rattle.rv_alu.specs.Footprint.{IsInPlace, footprint}
 use Rattle.rv_alu.specs.Reservations.{unreserved}
 use Rattle.rv_alu.specs.declared.action.Action.{Action}
 use Rattle.rv_flat.proofs.Laws.RunsAfter.{runs-exists}
+use Rattle.rv_flat.proofs.Laws.Shapes.{span_kept}
 use Rattle.rv_flat.proofs.Laws.StepLaws.{keeps_shape, own_view, running}
-use Rattle.rv_flat.specs.FlatState.{FlatState, no_hart, span_of, view_of}
-use Rattle.rv_flat.specs.Laws.{KeepsShape, written_line}
+use Rattle.rv_flat.specs.FlatState.{FlatState, no_hart, view_of}
+use Rattle.rv_flat.specs.Laws.{written_line}
 use Rattle.rv_flat.specs.Step.{appended_by, applied, execution_of, flat, unreserved_by}
 use Rattle.snoop.specs.Returned.{returned}
 use Rattle.write_hold.specs.Slotted.{IsLent}
@@ -227,7 +228,7 @@ module _ (parts : Parts) (hart : HartId) (state : ModelState) (action : Action)
       let keeps = keeps_shape state.committed hart.number in
       record {
         config = was.config;
-        span = was.span ∙ same_span state.committed (flat state.committed hart.number) keeps;
+        span = was.span ∙ sym (span_kept state.committed (flat state.committed hart.number) keeps);
         shows = ran_shows parts hart.number state action acts is place none pool cache over;
         told = ran_told parts hart.number state action acts is place none pool cache over;
         one_each =
@@ -257,8 +258,3 @@ module _ (parts : Parts) (hart : HartId) (state : ModelState) (action : Action)
             ∙ ap (λ e. appended_by (append_in e) state.committed.base state.committed.bytes state.committed.output) same
             ∙ sym (ap (λ s. s.output) done);
       }
-    where
-      same_span : (old new : FlatState) → KeepsShape old new → span_of old ≡ span_of new
-      same_span old new keeps =
-          ap (λ b. record { base = b; end = b + length old.bytes }) (sym keeps.base)
-          ∙ ap (λ n. record { base = new.base; end = new.base + n }) (sym keeps.length_of_bytes)

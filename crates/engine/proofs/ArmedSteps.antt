@@ -1,9 +1,9 @@
 -- the parts after an armed section has gone on, and after it was let go
-use Rattle.std.proofs.Common.{◌≡◌, ◌≢◌, ◌∙◌, ℕ, suc, ◌+◌, ◌≤◌, ◌<◌, true, false, length, None, Some, is_some, refl, ap}
+use Rattle.std.proofs.Common.{◌≡◌, ◌∙◌, ℕ, suc, ◌+◌, ◌≤◌, true, false, None, Some, is_some, refl, ap}
 use Rattle.std.proofs.Common.{sym, subst, arith}
 use Rattle.std.specs.Prelude.{◌==◌, IfSome, IsSome, not, option_map, slice_set}
 use Rattle.std.proofs.lemmas.Bool.Decides.{nat_tests}
-use Rattle.std.proofs.lemmas.List.{get_or-set_other, get_or-set_same, length-set}
+use Rattle.std.proofs.lemmas.List.{get_or-set_same, length-set}
 use Rattle.residency.proofs.Laws.WellFormedLemmas.{well_formed-cleared}
 use Rattle.residency.proofs.Laws.Unmarked.{unmarked-cleared}
 use Rattle.residency.specs.Cache.{cleared, has_marks}
@@ -21,13 +21,13 @@ use Rattle.engine.proofs.Buffered.{committed_beside}
 use Rattle.engine.proofs.LentThere.{inside_caches, still_beside}
 use Rattle.engine.proofs.Framed.{IsClearedThere, beside_same, told_copies, told_moved, told_same}
 use Rattle.engine.proofs.KeptPrivate.{keeps_private}
+use Rattle.engine.proofs.Others.{others_kept}
 use Rattle.engine.proofs.PrivateCalls.{untouched}
-use Rattle.engine.proofs.Others.{IsSeenAs, seen_same}
 use Rattle.engine.proofs.Stepped.{HasStepped, IsBetween, IsCacheOf, StaysInPlace, after_turn, armed_turn_is}
 use Rattle.engine.proofs.Stepped.{freed_between, noted_between}
 use Rattle.engine.proofs.Stepped.{ready_between, returned_between, runs, shows_committed, stays_in_place}
 use Rattle.engine.proofs.Stepped.{told_committed}
-use Rattle.engine.specs.Acting.{MayAct, next_action, sets_in}
+use Rattle.engine.specs.Acting.{next_action, sets_in}
 use Rattle.engine.specs.Armed.{FollowsArmed}
 use Rattle.engine.specs.Private.{RanOver, kept_of}
 use Rattle.engine.specs.Parts.{IsInState, IsOfHart, KeepsReserved, KeepsSectionOf, Parts, StandsAs, own_at, present_at}
@@ -41,7 +41,8 @@ use Rattle.run_laws.proofs.Laws.Growing.{continued_run}
 use Rattle.run_laws.specs.PrivateRun.{KeepsAllButAView}
 use Rattle.rv_alu.specs.Execution.{perform, view_after}
 use Rattle.rv_alu.specs.declared.action.Action.{Action}
-use Rattle.rv_flat.specs.FlatState.{FlatState, no_hart, view_of}
+use Rattle.rv_flat.proofs.Laws.Shapes.{keeps_alone}
+use Rattle.rv_flat.specs.FlatState.{no_hart, view_of}
 use Rattle.rv_flat.specs.Run.{alone}
 use Rattle.rv_flat.specs.Step.{action_of}
 use Rattle.section_ctl.specs.Calls.{HasContinued}
@@ -65,15 +66,6 @@ stepped_armed old new hart from armed rule state follows is stays stepped =
     (armed_turn_is old hart from armed follows.acts)
     (subst (λ s. StaysInPlace from.committed s.committed) (sym turn) stays)
     (subst (HasStepped old new hart.number) (sym turn) stepped)
-
--- one hart keeps something new, and the others what they kept
-others_kept : (old : Parts) (h : ℕ) (from : ModelState) (own : OwnState) (committed : FlatState) → MayAct old h from →
-    ((g : ℕ) → g ≢ h → view_of committed g ≡ view_of from.committed g) → (g : ℕ) → g ≢ h → g < length old.harts →
-    IsSeenAs (own_at old.harts g) (own_at (slice_set old.harts h own) g) (view_of committed g)
-others_kept old h from own committed may same g other exists =
-    subst (λ o. IsSeenAs (own_at old.harts g) o (view_of committed g))
-    (sym (get_or-set_other old.harts h g own (new_own no_hart 0 0) other))
-    (seen_same (own_at old.harts g) (view_of committed g) ((may.is_in.harts g exists).view ∙ sym (same g other)))
 
 not_zero : (n : ℕ) → 1 ≤ n → true ≡ not (n == 0)
 not_zero n some =
@@ -363,13 +355,7 @@ module _ (old : Parts) (hart : HartId) (armed : Armed) (from : ModelState)
     let_go_in =
         let may = follows.acts.may in
         stepped_armed old _ hart from armed LetsGo (state_freed from g armed) follows (by_lets_go from g armed)
-        (record {
-          base = keeps_rest.rest.base;
-          size = ap length keeps_rest.rest.bytes;
-          code = keeps_rest.rest.code;
-          harts = keeps_rest.rest.harts;
-          output = keeps_rest.rest.output;
-        })
+        (record { shape = keeps_alone from.committed g armed.count; output = keeps_rest.rest.output })
         (record {
           config = refl;
           span = refl;

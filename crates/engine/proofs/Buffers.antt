@@ -1,8 +1,8 @@
 -- an instruction of a section may be buffered
 use Rattle.std.proofs.Common.{◌≡◌, ◌∙◌, ℕ, ◌+◌, ◌%◌, ◌<◌, slice_index, ◌≤◌, ◌++◌, [], ◌∷◌, true}
-use Rattle.std.proofs.Common.{List, Option, Some, None, is_some, ◌||◌, inl, inr, refl, ap, sym, subst, arith}
+use Rattle.std.proofs.Common.{List, Option, Some, None, inl, inr, refl, ap, sym, subst, arith}
 use Rattle.residency.proofs.Laws.MarkLemmas.{write_bits_of-touched}
-use Rattle.residency.specs.Cache.{bit_in, has_bit, is_resident, way_of, write_bits_of}
+use Rattle.residency.specs.Cache.{is_resident, write_bits_of}
 use Rattle.cache_sets.specs.Cached.{Cached, cached_byte, copy_in}
 use Rattle.cache_sets.specs.Slotted.{Slotted, lent}
 use Rattle.residency.specs.Residency.{Way}
@@ -90,17 +90,9 @@ same_memory flat old new same bytes address low resident =
     (same_bytes old new (line_number address) (same (line_number address)))
     ∙ bytes address low (same_resident old new (line_number address) (same (line_number address)) resident)
 
--- a line with a bit is there
-resident_with_any : (cache : List (List Way)) (line : ℕ) → has_bit cache line ≡ true → is_resident cache line ≡ true
-resident_with_any cache line bit = by (way_of cache line) bit
-  where
-    by : (way : Option Way) → (bit_in Read way || bit_in Write way) ≡ true → is_some way ≡ true
-    by None bit = absurd cc
-    by (Some way) bit = refl
-
 covered_memory : (flat : FlatState) (cache : Cached) → HasBytesOf flat cache → HasCoveredBytes flat cache
 covered_memory flat cache bytes address low bit =
-    bytes address low (resident_with_any cache.residency (line_number address) bit)
+    bytes address low (covered_there cache.residency (line_number address) Read bit)
 
 pub can_buffer : (parts : Parts) (h : ℕ) (from : ModelState) (section : Section) (touch : Option Touch)
     (cache : Slotted) → FollowsRule parts h from section (Buffers touch) → HasItsBitNow (sets_in parts h) cache touch →

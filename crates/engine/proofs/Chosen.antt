@@ -11,13 +11,13 @@ use Rattle.el_base.specs.declared.outcomes.Need.{Need}
 use Rattle.el_base.proofs.Laws.Cases.{none_some}
 use Rattle.el_model.specs.Conflicts.{is_wanted_to_write}
 use Rattle.el_model.specs.Plain.{Arms, Begins, Misses, Runs, elidable_reserve, elidable_swap, may_elide, plain_rule}
-use Rattle.el_model.specs.State.{Hart, ModelState, cache_of, hart_of}
+use Rattle.el_model.specs.State.{Hart, ModelState, hart_of}
 use Rattle.el_model.specs.Upcoming.{Swap, Touch, next_reserved, next_swap, next_touch, touch_of}
-use Rattle.engine.proofs.Misses.{freed_here}
+use Rattle.engine.proofs.Misses.{own_cache}
 use Rattle.engine.proofs.PlainRules.{ArmsAt, BeginsAt, TouchesLine, TouchesWord, arms_word, begins_swap, lacks_none}
 use Rattle.engine.proofs.PlainRules.{misses_touch, runs_touch, same_touch}
 use Rattle.engine.proofs.PlainRules.{swapping_rule, swapping_same}
-use Rattle.engine.proofs.StandsOutside.{action_is, inside}
+use Rattle.engine.proofs.StandsOutside.{action_is}
 use Rattle.engine.proofs.Laws.Swaps.{IsReserveOf, reserve_action, touches_word}
 use Rattle.engine.specs.Acting.{ActsOutside, cache_in, next_action}
 use Rattle.engine.specs.Parts.{Parts}
@@ -53,9 +53,6 @@ module _ (parts : Parts) (h : ℕ) (state : ModelState) (action : Action) (acts 
   pub next : IsNext action state.committed h
   next = is ∙ action_is parts h state acts
 
-  pub own_cache : (cache_in parts h).residency ≡ cache_of state h
-  own_cache = acts.may.is_in.shows.caches h ∙ ap (λ hart. hart.cache) (freed_here state h (inside parts h state acts))
-
   rule_is : plain_rule state h
       ≡ swapping_rule (cache_in parts h).residency (λ line. is_wanted_to_write state h line)
       (touch_of (footprint action)) (elidable_reserve state h)
@@ -64,7 +61,7 @@ module _ (parts : Parts) (h : ℕ) (state : ModelState) (action : Action) (acts 
       swapping_same state h (elidable_swap state h)
       ∙ ap (λ cache. swapping_rule cache (λ line. is_wanted_to_write state h line) (next_touch state.committed h)
       (elidable_reserve state h)
-      (elidable_swap state h)) (sym own_cache)
+      (elidable_swap state h)) (sym (own_cache parts state h acts.may))
       ∙ ap (λ touch. swapping_rule (cache_in parts h).residency (λ line. is_wanted_to_write state h line) touch
       (elidable_reserve state h)
       (elidable_swap state h)) (sym (touch_next action state.committed h next))

@@ -1,5 +1,5 @@
 -- the parts after a hart's section has committed
-use Rattle.std.proofs.Common.{◌≡◌, ◌≢◌, ◌∙◌, ℕ, ◌+◌, ◌-◌, ◌*◌, ◌/◌, ◌<◌, ◌≤◌, Bool, true}
+use Rattle.std.proofs.Common.{◌≡◌, ◌≢◌, ◌∙◌, ℕ, ◌+◌, ◌-◌, ◌*◌, ◌/◌, ◌<◌, Bool, true}
 use Rattle.std.proofs.Common.{false, if◌then◌else◌, List, drop, length, Option, Some, None, is_some, refl, ap, sym}
 use Rattle.std.proofs.Common.{subst, arith}
 use Rattle.std.specs.Prelude.{IfSome, IsSome, option_map, slice_set}
@@ -33,19 +33,17 @@ use Rattle.el_model.proofs.Laws.Harts.{hart_of-with_hart_same}
 use Rattle.el_model.specs.Attempts.{close_attempt}
 use Rattle.el_model.specs.Deed.{MayCommit}
 use Rattle.el_model.specs.InSection.{Commits, by_section_rule, committed_hart, section_rule, section_turn, shown_in}
-use Rattle.el_model.specs.Plain.{armed_count}
-use Rattle.el_model.specs.State.{Hart, ModelState, Section, armed_of, cache_of, hart_of, section_of, with_hart}
-use Rattle.el_base.proofs.Laws.Ranges.{at_most, ranges}
-use Rattle.step_laws.proofs.Laws.Short.{sections_are_short}
+use Rattle.el_model.specs.State.{Hart, ModelState, Section, armed_of, cache_of, hart_of, with_hart}
+use Rattle.engine.proofs.Buffers.{is_counted}
 use Rattle.engine.proofs.Framed.{tells_memory, told_back, told_copies}
 use Rattle.engine.proofs.LentThere.{inside_caches, lent_there, still_beside}
 use Rattle.engine.proofs.InsideRules.{says}
 use Rattle.engine.proofs.KeptLive.{keeps_live, next_inside, same_action}
 use Rattle.engine.specs.Private.{CommitsOver, MayTakeEffect, kept_of}
-use Rattle.engine.proofs.Misses.{freed_here, is_there}
+use Rattle.engine.proofs.Misses.{freed_here, is_there, own_part}
 use Rattle.engine.proofs.Others.{IsSeenAs, seen_same, seen_unreserved}
 use Rattle.engine.proofs.RolledBack.{between, has_cache}
-use Rattle.engine.proofs.Stepped.{HasStepped, IsBetween, StaysInPlace, after_step}
+use Rattle.engine.proofs.Stepped.{HasStepped, IsBetween, StaysInPlace, after_step, agent_unarmed}
 use Rattle.engine.proofs.Steps.{asks_nothing}
 use Rattle.engine.specs.Acting.{MayAct, cache_in, freed, next_action, sets_in}
 use Rattle.engine.specs.Inside.{FollowsRule}
@@ -63,6 +61,7 @@ use Rattle.rv_alu.specs.Execution.{perform, view_after}
 use Rattle.rv_alu.specs.Reservations.{reserved_off}
 use Rattle.rv_alu.specs.declared.action.Action.{Action}
 use Rattle.rv_alu.specs.declared.view.HartView.{HartView}
+use Rattle.rv_flat.proofs.Laws.Shapes.{keeps_alone}
 use Rattle.rv_flat.specs.FlatState.{FlatState, no_hart, view_of}
 use Rattle.rv_flat.specs.Memory.{AreBytes}
 use Rattle.rv_flat.specs.Run.{alone}
@@ -252,13 +251,7 @@ module _ (copies : Copies) (h : ℕ) (cache : Cached) (old done : FlatState) (wo
 -- the bus
 agent_then : (from : ModelState) (h : ℕ) → armed_of from h ≡ None →
     agent_of (hart_then from h) ≡ agent_of (close_attempt (record (hart_of from h) { held_line = None }))
-agent_then from h none =
-    ap
-    (λ armed.
-    record (agent_of (close_attempt (record (hart_of from h) { held_line = None }))) {
-      armed =
-          armed_count armed;
-    }) (sym none)
+agent_then from h none = agent_unarmed (close_attempt (record (hart_of from h) { held_line = None })) none
 
 -- a hart that loses its reservation where it is of a word on one of these lines
 seen_by : (lines : ℕ → Bool) (reserved : Option ℕ) (own : OwnState) →
@@ -422,16 +415,7 @@ module _ (parts : Parts) (bus : BusState) (h : ℕ) (from : ModelState) (section
       let was = may.is_in.harts h may.exists in
       let below = is_there parts from h may in
       let here = hart_of-with_hart_same from h (hart_then from h) below in
-      let freed_part : HasOwn own (record (hart_of from h) { held_line = None }) =
-      subst (HasOwn own) (freed_here from h below) was.part in
-      let part : HasOwn own (hart_of from h) = record {
-        section = freed_part.section;
-        armed = freed_part.armed;
-        last_lr = freed_part.last_lr;
-        predictor = freed_part.predictor;
-        fallback = freed_part.fallback;
-        tries = freed_part.tries;
-      } in
+      let part = own_part parts from h may in
       let under : ℕ → ℕ = λ a. 0 in
       record {
         part = subst (HasOwn (committed_own after own)) (sym here)
@@ -500,14 +484,7 @@ module _ (parts : Parts) (bus : BusState) (h : ℕ) (from : ModelState) (section
       }
 
   pub stays : StaysInPlace from.committed (done_of from h section)
-  stays =
-      record {
-        base = effects.base;
-        size = effects.size;
-        code = effects.code;
-        harts = effects.harts;
-        output = effects.output;
-      }
+  stays = record { shape = keeps_alone from.committed h (section.count + 1); output = effects.output }
 
 pub commits_in : (parts : Parts) (bus : BusState) (hart : HartId) (from : ModelState) (section : Section)
     (action : Action) (after : SectionState)
@@ -579,12 +556,6 @@ commits_over parts mid h pool cache after action before over =
     (λ p sets own. CommitsOver p pool sets cache own.section after action) over
 
 -- how many instructions it has with its release
-few : (from : ModelState) (h : ℕ) (section : Section) (reached : IsReached from) → section_of from h ≡ Some section →
-    section.count ≤ reached.config.long
-few from h section reached live =
-    (sections_are_short reached.program reached.config reached.events h section reached.in_range
-    (subst (λ s. section_of s h ≡ Some section) reached.state_is live)).no_more
-
 pub is_live_there : (parts : Parts) (h : ℕ) (from : ModelState) (section : Section) →
     FollowsRule parts h from section Commits → IsSome (own_at parts.harts h).section.live
 is_live_there parts h from section follows =
@@ -594,11 +565,8 @@ pub can_count : (parts : Parts) (h : ℕ) (from : ModelState) (section : Section
     FollowsRule parts h from section Commits →
     IfSome (own_at parts.harts h).section.live (λ s. s.count + 1 < 4294967296)
 can_count parts h from section follows =
-    let reached = follows.inside.may.reached in
-    let least = few from h section reached follows.inside.live in
-    let most = at_most 2 65536 reached.config.long (ranges reached.config reached.in_range).long in
     subst (λ live. IfSome live (λ s. s.count + 1 < 4294967296))
-    (sym (keeps_live parts h from section follows.inside).live) (omega (arith, least, most))
+    (sym (keeps_live parts h from section follows.inside).live) (is_counted parts h from section follows.inside)
 
 pub counted : (parts : Parts) (h count : ℕ) (from : ModelState) (section : Section) →
     FollowsRule parts h from section Commits → IfSome (own_at parts.harts h).section.live (λ s. count ≡ s.count + 1) →

@@ -1,8 +1,8 @@
 -- a pool that has changed for some owners lends all others as before
 use Rattle.std.proofs.Common.{◌≡◌, ◌≢◌, ◌∙◌, ℕ, ◌<◌, List, [], map, Option, Some, None, length, slice_index, ap, sym}
 use Rattle.std.proofs.Common.{subst, arith}
-use Rattle.std.specs.Prelude.{slice_set}
-use Rattle.std.proofs.lemmas.List.{ext_get_or, set-set}
+use Rattle.std.specs.Prelude.{slice_index_or, slice_set}
+use Rattle.std.proofs.lemmas.List.{ext_get_or, get_or_read, set-set}
 use Rattle.cache_sets.specs.Cached.{copy_in}
 use Rattle.cache_sets.specs.Calls.{IsCleared}
 use Rattle.cache_sets.specs.Slotted as caches
@@ -16,11 +16,12 @@ use Rattle.coherence.specs.Lent.{IsLentTo, LeavesOwner, lent_all, slotted_at}
 use Rattle.coherence.specs.Served.{TellsOf}
 use Rattle.el_model.specs.State.{ModelState, Section, cache_of, section_of}
 use Rattle.engine.specs.Lent.{KeepsCopies}
-use Rattle.engine.specs.Parts.{IsInState, IsOfHart, KeepsSectionOf, Parts, hold_owner}
+use Rattle.engine.specs.Parts.{IsInState, IsOfHart, KeepsSectionOf, Parts, hold_owner, own_at}
 use Rattle.engine.specs.Private.{with_own}
-use Rattle.hart_state.specs.Own.{OwnState}
+use Rattle.hart_state.specs.Own.{OwnState, new_own}
 use Rattle.line_pool.specs.Pooled.{Pooled}
 use Rattle.residency.specs.Cache.{cleared}
+use Rattle.rv_flat.specs.FlatState.{no_hart}
 use Rattle.section_ctl.specs.Lent.{LeavesBeside}
 use Rattle.section_ctl.specs.State.{SectionState}
 use Rattle.section_view.specs.KeptRun.{HoldsMarked, KeepsRun}
@@ -134,6 +135,13 @@ told_left old new bus bytes leaves tells = record {
       subst (λ list. TellsOf (record (lent_copies old bus.copies) { caches = list }) bytes)
       (sym (caches_left old new bus.copies.caches tells.lent leaves)) tells.told;
 }
+
+-- what is read at an index is what the hart of that number keeps, in the list as it was
+pub own_read : (harts old : List OwnState) (i h : ℕ) (own : OwnState) → harts ≡ old → i ≡ h → h < length old →
+    own ≡ slice_index_or harts i own → own ≡ own_at old h
+own_read harts old i h own same at exists read =
+    get_or_read harts i own (omega (arith, at, ap length same, exists)) read (new_own no_hart 0 0)
+    ∙ ap (own_at harts) at ∙ ap (λ list. own_at list h) same
 
 -- a pool, a cache and what one hart keeps were put into the parts
 pub put_own : (old : Parts) (h i : ℕ) (pool : Pooled) (cache : caches.Slotted) (own now : OwnState) → i ≡ h →

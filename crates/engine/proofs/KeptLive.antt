@@ -12,7 +12,7 @@ use Rattle.el_model.specs.State.{ModelState, Section, armed_of, cache_of, sectio
 use Rattle.elf_image.specs.Program.{code_word}
 use Rattle.engine.proofs.Framed.{tells_memory}
 use Rattle.engine.proofs.InsideRules.{freed_cache}
-use Rattle.engine.proofs.Misses.{freed_here, is_there}
+use Rattle.engine.proofs.Misses.{freed_here, is_there, own_cache}
 use Rattle.engine.proofs.Reserved.{unarmed}
 use Rattle.engine.specs.Acting.{ActsInside, MayAct, cache_in, freed, next_action}
 use Rattle.engine.specs.Parts.{KeepsSection, KeepsSectionOf, Parts, StandsAs, present_at, room_in}
@@ -89,7 +89,7 @@ keeps_live parts h from section inside =
       unarmed_there =
           sym (ap (λ hart. hart.armed) here) ∙ sym was.part.armed ∙ ap (option_map (λ reserved. reserved.armed)) none;
       stands = subst (StandsAs kept.marks kept.hold (Some section)) none stands;
-      cache = may.is_in.shows.caches h ∙ freed_cache from h h;
+      cache = own_cache parts from h may;
       bytes = has_bytes parts h from may;
       comes =
           comes_to from.committed h (cache_of from h) section kept.marks.present

@@ -8,7 +8,7 @@ use Rattle.el_model.specs.Armed.{shown_armed}
 use Rattle.el_model.specs.State.{Armed, ModelState, cache_of, hart_of}
 use Rattle.engine.proofs.Covering.{covered_there}
 use Rattle.engine.proofs.KeptLive.{same_action}
-use Rattle.engine.proofs.Misses.{freed_here, is_there}
+use Rattle.engine.proofs.Misses.{freed_here, is_there, own_cache, own_part}
 use Rattle.engine.proofs.Reaching.{runs_armed, small_armed}
 use Rattle.engine.proofs.Reserved.{kept_as}
 use Rattle.engine.specs.Acting.{ActsArmed, cache_in, freed, next_action}
@@ -53,7 +53,6 @@ keeps_private parts h from armed acts =
     let was : IsOfHart parts.pool (freed from h) h own = may.is_in.harts h may.exists in
     let below = is_there parts from h may in
     let here = freed_here from h below in
-    let freed_part : HasOwn own (record (hart_of from h) { held_line = None }) = subst (HasOwn own) here was.part in
     let live = was.part.section ∙ ap (λ hart. hart.section) here ∙ acts.no_section in
     let kept = kept_as own.section.armed armed (was.part.armed ∙ ap (λ hart. hart.armed) here ∙ acts.armed_is) in
     let keeps : KeepsArmed from.committed h armed kept.old own.section.marks.present =
@@ -61,14 +60,7 @@ keeps_private parts h from armed acts =
     let run = runs_armed from h armed may.reached acts.armed_is in
     record {
       below = below;
-      part = record {
-        section = freed_part.section;
-        armed = freed_part.armed;
-        last_lr = freed_part.last_lr;
-        predictor = freed_part.predictor;
-        fallback = freed_part.fallback;
-        tries = freed_part.tries;
-      };
+      part = own_part parts from h may;
       live = live;
       old = kept.old;
       is = kept.is;
@@ -78,7 +70,7 @@ keeps_private parts h from armed acts =
       stands =
           subst (StandsAs own.section.marks own.section.hold None) kept.is
           (subst (λ l. StandsAs own.section.marks own.section.hold l own.section.armed) live was.stands);
-      cache = may.is_in.shows.caches h ∙ ap (λ hart. hart.cache) here;
+      cache = own_cache parts from h may;
       comes = armed_comes_to from.committed h (cache_of from h) armed kept.old own.section.marks.present run keeps;
     }
 

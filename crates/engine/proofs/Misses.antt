@@ -5,11 +5,12 @@ use Rattle.el_base.specs.declared.outcomes.Need.{Need}
 use Rattle.el_model.proofs.Laws.Harts.{hart_of-with_hart_same, with_hart_kept}
 use Rattle.el_model.proofs.Laws.Keeps.{keeps_with_hart}
 use Rattle.el_model.specs.Plain.{missed, missed_hart}
-use Rattle.el_model.specs.State.{Hart, ModelState, hart_of, with_hart}
+use Rattle.el_model.specs.State.{Hart, ModelState, cache_of, hart_of, with_hart}
 use Rattle.engine.proofs.Standing.{IsSameHart, with_bus}
-use Rattle.engine.specs.Acting.{MayAct, freed}
+use Rattle.engine.specs.Acting.{MayAct, cache_in, freed}
 use Rattle.engine.specs.Missing.{MayMiss}
-use Rattle.engine.specs.Parts.{IsInState, Parts}
+use Rattle.engine.specs.Parts.{IsInState, Parts, own_at}
+use Rattle.hart_state.specs.Own.{HasOwn}
 use Rattle.snoop.specs.Agent.{agent_at}
 use Rattle.snoop.specs.Shows.{BusState, Shows}
 
@@ -26,11 +27,38 @@ pub freed_here : (state : ModelState) (h : ℕ) → h < length state.harts →
     hart_of (freed state h) h ≡ record (hart_of state h) { held_line = None }
 freed_here state h below = hart_of-with_hart_same state h (record (hart_of state h) { held_line = None }) below
 
--- a hart that becomes another becomes it in place of the freed one
+-- what is kept for it, and its cache, are those of the freed hart, and so of the one before
+pub freed_part : (parts : Parts) (state : ModelState) (h : ℕ) → MayAct parts h state →
+    HasOwn (own_at parts.harts h) (record (hart_of state h) { held_line = None })
+freed_part parts state h may =
+    subst (HasOwn (own_at parts.harts h)) (freed_here state h (is_there parts state h may))
+    (may.is_in.harts h may.exists).part
+
+pub own_part : (parts : Parts) (state : ModelState) (h : ℕ) → MayAct parts h state →
+    HasOwn (own_at parts.harts h) (hart_of state h)
+own_part parts state h may =
+    let part = freed_part parts state h may in
+    record {
+      section = part.section;
+      armed = part.armed;
+      last_lr = part.last_lr;
+      predictor = part.predictor;
+      fallback = part.fallback;
+      tries = part.tries;
+    }
+
+pub own_cache : (parts : Parts) (state : ModelState) (h : ℕ) → MayAct parts h state →
+    (cache_in parts h).residency ≡ cache_of state h
+own_cache parts state h may =
+    may.is_in.shows.caches h ∙ ap (λ hart. hart.cache) (freed_here state h (is_there parts state h may))
+
+-- a hart that becomes another twice, and so one that becomes another in place of the freed one
+pub set_twice : (state : ModelState) (h : ℕ) (first second : Hart) →
+    with_hart (with_hart state h first) h second ≡ with_hart state h second
+set_twice state h first second = ap (λ harts. record state { harts = harts }) (set-set state.harts h first second)
+
 pub freed_then : (state : ModelState) (h : ℕ) (hart : Hart) → with_hart (freed state h) h hart ≡ with_hart state h hart
-freed_then state h hart =
-    ap (λ harts. record state { harts = harts })
-    (set-set state.harts h (record (hart_of state h) { held_line = None }) hart)
+freed_then state h hart = set_twice state h (record (hart_of state h) { held_line = None }) hart
 
 -- another hart in the place of one, the same but for what the bus keeps
 pub same_each : (state : ModelState) (h : ℕ) (hart : Hart) → IsSameHart (hart_of state h) hart → (g : ℕ) →

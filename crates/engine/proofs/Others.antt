@@ -1,25 +1,26 @@
 -- a step of one hart, as the others come out of it
 use Rattle.std.proofs.Common.{◌≡◌, ◌≢◌, ◌∙◌, ℕ, ◌<◌, length, Option, Some, None, is_some, refl, ap, sym, subst}
-use Rattle.std.specs.Prelude.{IsSome, option_map}
+use Rattle.std.specs.Prelude.{IsSome, option_map, slice_set}
+use Rattle.std.proofs.lemmas.List.{get_or-set_other}
 use Rattle.el_base.specs.declared.events.Event.{Event}
 use Rattle.el_base.specs.declared.events.Kind.TheVariants as kinds
 use Rattle.el_model.proofs.Laws.Harts.{hart_of-with_hart_other}
 use Rattle.el_model.specs.Next.{next}
 use Rattle.el_model.specs.State.{Hart, ModelState, Section, armed_of, cache_of, hart_of, section_of}
 use Rattle.engine.proofs.Reaching.{other_step_beside, runs_armed, survives_event}
-use Rattle.engine.specs.Acting.{freed}
+use Rattle.engine.specs.Acting.{MayAct, freed}
 use Rattle.engine.specs.Parts.{IsInState, IsOfHart, KeepsReserved, KeepsSection, KeepsSectionOf, Parts, StandsAs}
 use Rattle.engine.specs.Parts.{own_at}
 use Rattle.engine.specs.Reached.{IsReached}
 use Rattle.hart_state.specs.Deeds.{unreserved_own}
-use Rattle.hart_state.specs.Own.{HasOwn, OwnState}
+use Rattle.hart_state.specs.Own.{HasOwn, OwnState, new_own}
 use Rattle.line_pool.specs.Pooled.{Pooled}
 use Rattle.reg_mark.proofs.Laws.Views.{committed_unreserved}
 use Rattle.reg_mark.specs.Marks.{committed_of, views_unreserved}
 use Rattle.reg_mark.specs.declared.marked.Marked.{Marked}
 use Rattle.rv_alu.specs.Reservations.{unreserved}
 use Rattle.rv_alu.specs.declared.view.HartView.{HartView}
-use Rattle.rv_flat.specs.FlatState.{FlatState, view_of}
+use Rattle.rv_flat.specs.FlatState.{FlatState, no_hart, view_of}
 use Rattle.section_ctl.specs.State.{Reserved, hold_in}
 use Rattle.section_view.proofs.Laws.Surviving.{kept_armed_survive, kept_survive, marks_stay}
 use Rattle.section_view.specs.KeptRun.{HoldsMarked, KeepsArmed, KeepsRun}
@@ -210,6 +211,16 @@ seen_same own committed is = record {
   marks = record { unmarked = λ none. none; marked = λ some. some; present = λ some. refl };
   view = is;
 }
+
+-- one hart keeps something new, and the others what they kept
+pub others_kept : (old : Parts) (h : ℕ) (from : ModelState) (own : OwnState) (committed : FlatState) →
+    MayAct old h from → ((g : ℕ) → g ≢ h → view_of committed g ≡ view_of from.committed g) →
+    (g : ℕ) → g ≢ h → g < length old.harts →
+    IsSeenAs (own_at old.harts g) (own_at (slice_set old.harts h own) g) (view_of committed g)
+others_kept old h from own committed may same g other exists =
+    subst (λ o. IsSeenAs (own_at old.harts g) o (view_of committed g))
+    (sym (get_or-set_other old.harts h g own (new_own no_hart 0 0) other))
+    (seen_same (own_at old.harts g) (view_of committed g) ((may.is_in.harts g exists).view ∙ sym (same g other)))
 
 -- the views of which the committed one lost its reservation of a word on a line
 unreserved_marks : (line : ℕ) (present : HartView) (mark : Option HartView) →

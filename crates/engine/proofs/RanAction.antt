@@ -27,7 +27,7 @@ use Rattle.el_model.proofs.Laws.HartParts.{candidate_armed, candidate_cache, can
 use Rattle.coherence.proofs.Laws.Offered.{leaves_owner}
 use Rattle.engine.proofs.Framed.{told_back}
 use Rattle.engine.proofs.LeftBehind.{TellsPiece}
-use Rattle.engine.proofs.Misses.{freed_here, freed_then}
+use Rattle.engine.proofs.Misses.{freed_here, freed_then, own_cache}
 use Rattle.engine.proofs.StandsOutside.{action_is, has_cache, in_memory, inside, lent_here, none_armed, none_marked}
 use Rattle.engine.proofs.StandsOutside.{runs_there, tells_there, view_is}
 use Rattle.engine.specs.Acting.{ActsOutside, cache_in, freed, next_action, sets_in}
@@ -153,7 +153,7 @@ module _ (parts : Parts) (h : ℕ) (state : ModelState) (action : Action) (acts 
       candidate_cache (acquire_pc state h) (is_some (hart_of state h).predictor.watch) (candidate_of state h)
       (seen_hart state h action)
       ∙ ap (λ c. after_touch c (touch_of (footprint action)))
-      (sym (acts.may.is_in.shows.caches h ∙ ap (λ hart. hart.cache) (freed_here state h (inside parts h state acts))))
+      (sym (own_cache parts state h acts.may))
       ∙ sym over.has_run.residency
 
   pub section_none : (hart_ran state h action).section ≡ None

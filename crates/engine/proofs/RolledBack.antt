@@ -2,7 +2,7 @@
 use Rattle.std.proofs.Common.{◌≡◌, ◌∙◌, ℕ, ◌<◌, ◌≤◌, length, None, is_some, refl, ap, sym, subst, arith}
 use Rattle.std.specs.Prelude.{slice_set}
 use Rattle.std.below.core.specs.declared.int.u64.TheConstants.{MAX}
-use Rattle.std.proofs.lemmas.List.{get_or-set_other, get_or-set_same, length-set}
+use Rattle.std.proofs.lemmas.List.{get_or-set_same, length-set}
 use Rattle.residency.proofs.Laws.WellFormedLemmas.{well_formed-cleared}
 use Rattle.residency.proofs.Laws.Unmarked.{unmarked-cleared}
 use Rattle.residency.specs.Cache.{cleared, has_marks}
@@ -18,15 +18,14 @@ use Rattle.el_base.specs.declared.outcomes.Outcome.TheVariants.{RolledBack}
 use Rattle.el_model.proofs.Laws.Harts.{hart_of-with_hart_same}
 use Rattle.el_model.specs.Attempts.{close_attempt}
 use Rattle.el_model.specs.InSection.{RollsBack, by_section_rule, section_rule, section_turn}
-use Rattle.el_model.specs.Plain.{armed_count}
 use Rattle.el_model.specs.RollBack.{rolled_back}
 use Rattle.el_model.specs.State.{Hart, ModelState, Section, armed_of, hart_of, with_hart}
 use Rattle.engine.proofs.Framed.{IsClearedThere, told_copies, told_left, told_same}
 use Rattle.engine.proofs.KeptLive.{keeps_live}
-use Rattle.engine.proofs.Misses.{freed_here, freed_then, is_there}
-use Rattle.engine.proofs.Others.{IsSeenAs, seen_same}
-use Rattle.engine.proofs.Stepped.{HasStepped, IsBetween, IsCacheOf, after_step, StaysInPlace, ready_between, set_twice}
-use Rattle.engine.proofs.Stepped.{shows_between, stays_in_place}
+use Rattle.engine.proofs.Misses.{freed_here, freed_part, freed_then, is_there, set_twice}
+use Rattle.engine.proofs.Others.{others_kept}
+use Rattle.engine.proofs.Stepped.{HasStepped, IsBetween, IsCacheOf, after_step, StaysInPlace, ready_between}
+use Rattle.engine.proofs.Stepped.{agent_unarmed, shows_between, stays_in_place}
 use Rattle.engine.specs.Acting.{MayAct, freed}
 use Rattle.engine.specs.Inside.{FollowsRule}
 use Rattle.engine.specs.Lent.{KeepsCopies}
@@ -112,13 +111,7 @@ between parts bus h from may shows =
 -- the bus keeps the same of it, since it is not armed
 agent_then : (from : ModelState) (h : ℕ) (cause : Cause) → armed_of from h ≡ None →
     agent_of (hart_then from h cause) ≡ agent_of (close_attempt (record (hart_of from h) { held_line = None }))
-agent_then from h cause none =
-    ap
-    (λ armed.
-    record (agent_of (close_attempt (record (hart_of from h) { held_line = None }))) {
-      armed =
-          armed_count armed;
-    }) (sym none)
+agent_then from h cause none = agent_unarmed (close_attempt (record (hart_of from h) { held_line = None })) none
 
 has_cleared : (bus : BusState) (h : ℕ) (from between : ModelState) (cause : Cause) (cache : Slotted) →
     IsBetween bus from between h (close_attempt (record (hart_of from h) { held_line = None })) →
@@ -147,8 +140,7 @@ own_then old pool from h cause may lent =
     let was = may.is_in.harts h may.exists in
     let below = is_there old from h may in
     let here = hart_of-with_hart_same from h (hart_then from h cause) below in
-    let part : HasOwn own (record (hart_of from h) { held_line = None }) =
-    subst (HasOwn own) (freed_here from h below) was.part in
+    let part = freed_part old from h may in
     let pc : committed_pc own ≡ (view_of from.committed h).pc = ap (λ view. view.pc) was.view in
     record {
       part = subst (HasOwn (rolled_back_own cause own)) (sym here)
@@ -199,9 +191,7 @@ rolls_stepped old pool bus from h cache cause may copies inside keeps gives show
           subst (IsOfHart pool (with_hart from h (hart_then from h cause)) h)
           (sym (get_or-set_same old.harts h own none may.exists))
           (own_then old pool from h cause may gives.lent);
-      others = λ g other exists. subst (λ o. IsSeenAs (own_at old.harts g) o (view_of from.committed g))
-          (sym (get_or-set_other old.harts h g own none other))
-          (seen_same (own_at old.harts g) (view_of from.committed g) (may.is_in.harts g exists).view);
+      others = others_kept old h from own from.committed may (λ g other. refl);
     }
 
 inside_bus : (parts : Parts) (bus : BusState) (h : ℕ) (from between : ModelState) (hart : Hart) → MayAct parts h from →

@@ -14,9 +14,10 @@ use Rattle.el_base.specs.declared.config.Mode.{Mode}
 use Rattle.el_model.specs.Plain.{armed_count, may_elide}
 use Rattle.el_model.specs.State.{Armed, ModelState, armed_of, cache_of, hart_of, section_of}
 use Rattle.el_model.specs.Upcoming.{Touch, touch_of}
-use Rattle.elf_image.specs.Program.{code_word}
 use Rattle.engine.proofs.Framed.{tells_memory}
-use Rattle.engine.proofs.Misses.{freed_here, is_there}
+use Rattle.engine.proofs.KeptLive.{same_action}
+use Rattle.engine.proofs.LentThere.{inside_caches}
+use Rattle.engine.proofs.Misses.{freed_here, is_there, own_part}
 use Rattle.engine.proofs.PlainRules.{TouchesLine}
 use Rattle.engine.proofs.Reaching.{config_of}
 use Rattle.engine.proofs.Reserved.{none_reserved}
@@ -24,7 +25,6 @@ use Rattle.engine.specs.Acting.{ActsOutside, cache_in, freed, next_action, sets_
 use Rattle.engine.specs.Parts.{IsOfHart, Parts, StandsAs, committed_at, own_at, present_at, room_in}
 use Rattle.hart_state.specs.Own.{HasOwn, committed_pc}
 use Rattle.reg_mark.specs.Marks.{checkpoint_or}
-use Rattle.rv_alu.specs.Action.{action_at}
 use Rattle.rv_alu.specs.Footprint.{IsInPlace, footprint}
 use Rattle.rv_alu.specs.declared.action.Action.{Action}
 use Rattle.rv_alu.specs.declared.view.HartStatus.TheVariants.{Running}
@@ -59,16 +59,7 @@ module _ (parts : Parts) (h : ℕ) (state : ModelState) (acts : ActsOutside part
 
   -- what it keeps is that of the hart in the first state too
   pub has_own : HasOwn (own_at parts.harts h) (hart_of state h)
-  has_own =
-      let has = subst (HasOwn (own_at parts.harts h)) (freed_here state h inside) is_own.part in
-      record {
-        section = has.section;
-        armed = has.armed;
-        last_lr = has.last_lr;
-        predictor = has.predictor;
-        fallback = has.fallback;
-        tries = has.tries;
-      }
+  has_own = own_part parts state h acts.may
 
   -- it has neither section there
   pub none_live : section_of (freed state h) h ≡ None
@@ -103,22 +94,13 @@ module _ (parts : Parts) (h : ℕ) (state : ModelState) (acts : ActsOutside part
   runs_there = ap (λ view. view.status) (sym view_is) ∙ runs
 
   pub action_is : next_action parts h ≡ action_of state.committed (view_of state.committed h)
-  action_is =
-      let is = acts.may.is_in in
-      ap (λ view. action_at (code_word parts.code view.pc) view parts.span (room_in parts)) view_is
-      ∙ ap (λ code. action_at (code_word code (view_of state.committed h).pc) (view_of state.committed h) parts.span
-      (room_in parts)) is.code
-      ∙ ap (λ span. action_at (code_word state.committed.code (view_of state.committed h).pc)
-      (view_of state.committed h) span (room_in parts)) is.span
-      ∙ ap (λ output. action_at (code_word state.committed.code (view_of state.committed h).pc)
-      (view_of state.committed h)
-      (span_of state.committed) (output_limit - length output)) is.output
+  action_is = same_action parts h state acts.may ∙ ap (action_of state.committed) view_is
 
   pub on_line : IsOnLine state.committed
   on_line = omega (arith, acts.may.is_in.shows.memory.first)
 
   pub has_cache : h < length parts.bus.copies.caches
-  has_cache = omega (arith, acts.may.exists, acts.may.is_in.one_each, acts.may.is_in.shows.cache_each)
+  has_cache = inside_caches parts h state acts.may
 
   -- its cache has no bits, and so room for any line
   pub none_marked : has_marks (cache_in parts h).residency ≡ false

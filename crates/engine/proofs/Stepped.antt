@@ -1,9 +1,9 @@
 -- a step of a hart, and the parts after it
-use Rattle.std.proofs.Common.{◌≡◌, ◌≢◌, ◌∙◌, ℕ, ◌+◌, ◌≤◌, ◌<◌, ◌||◌, if◌then◌else◌, false, true, List, length}
+use Rattle.std.proofs.Common.{◌≡◌, ◌≢◌, ◌∙◌, ℕ, ◌≤◌, ◌<◌, ◌||◌, if◌then◌else◌, false, true, List, length}
 use Rattle.std.proofs.Common.{Some, None, is_some, refl, ap, sym, subst, inl, inr}
 use Rattle.std.specs.Prelude.{◌==◌, not, slice_set}
 use Rattle.std.proofs.lemmas.Bool.{cases_eq}
-use Rattle.std.proofs.lemmas.List.{length-set, set-set}
+use Rattle.std.proofs.lemmas.List.{length-set}
 use Rattle.bus_order.specs.Order.{request_of}
 use Rattle.residency.proofs.Laws.WellFormedLemmas.{well_formed-marked, well_formed-touched}
 use Rattle.residency.proofs.Laws.MarkLemmas.{no_marks}
@@ -18,6 +18,7 @@ use Rattle.el_base.specs.declared.events.Event.{Event}
 use Rattle.el_base.specs.declared.events.Kind.TheVariants as kinds
 use Rattle.el_base.specs.declared.hart_id.HartId.{HartId}
 use Rattle.el_base.specs.declared.outcomes.Need.TheVariants.{Read}
+use Rattle.el_base.proofs.Laws.Cases.{true_false}
 use Rattle.el_base.proofs.Laws.Options.{none_from_both}
 use Rattle.el_model.proofs.Laws.Harts.{hart_of-with_hart_same}
 use Rattle.el_model.specs.Armed.{armed_turn}
@@ -27,7 +28,7 @@ use Rattle.el_model.specs.Plain.{armed_count}
 use Rattle.el_model.specs.State.{Armed, Hart, ModelState, Section, Turn, armed_of, has_request, hart_of, ordered_of}
 use Rattle.el_model.specs.State.{raised_of, section_of, with_hart}
 use Rattle.engine.proofs.Framed.{hold_beside, own_left}
-use Rattle.engine.proofs.Misses.{freed_each, freed_here, freed_then, is_there}
+use Rattle.engine.proofs.Misses.{freed_each, freed_here, freed_then, is_there, set_twice}
 use Rattle.engine.proofs.LentThere.{few_harts}
 use Rattle.engine.proofs.Others.{IsSeenAs, others_stay}
 use Rattle.engine.specs.Acting.{ActsArmed, ActsInside, MayAct, freed}
@@ -36,7 +37,9 @@ use Rattle.engine.specs.Parts.{IsInState, IsOfHart, Parts, hold_owner, own_at}
 use Rattle.hart_state.specs.Own.{OwnState}
 use Rattle.line_pool.specs.Pooled.{Pooled}
 use Rattle.rv_alu.specs.declared.view.HartStatus.TheVariants.{Running}
-use Rattle.rv_flat.specs.FlatState.{FlatState, span_of, status_of, view_of}
+use Rattle.rv_flat.proofs.Laws.Shapes.{keeps_own_shape, span_kept}
+use Rattle.rv_flat.specs.FlatState.{FlatState, status_of, view_of}
+use Rattle.rv_flat.specs.Laws.{KeepsShape}
 use Rattle.section_ctl.specs.Lent.{LeavesBeside}
 use Rattle.snoop.proofs.Laws.Living.{lives_armed}
 use Rattle.snoop.proofs.Laws.Returning.{ready_returned, shows_returned, unasked_returned}
@@ -94,14 +97,11 @@ turn_is parts hart from section inside =
 
 -- memory lies where it did, with the same code, the same number of harts and the same output
 pub record StaysInPlace (old new : FlatState) : Type 0 where
-  pub base : new.base ≡ old.base
-  pub size : length new.bytes ≡ length old.bytes
-  pub code : new.code ≡ old.code
-  pub harts : length new.harts ≡ length old.harts
+  pub shape : KeepsShape old new
   pub output : new.output ≡ old.output
 
 pub stays_in_place : (flat : FlatState) → StaysInPlace flat flat
-stays_in_place flat = record { base = refl; size = refl; code = refl; harts = refl; output = refl }
+stays_in_place flat = record { shape = keeps_own_shape flat; output = refl }
 
 -- what the parts of a hart that has stepped are in a state: the bus shows it, with its bytes, the hart keeps what is
 -- its own, and the others what they kept, but for their committed views, and their slots of the pool
@@ -118,11 +118,6 @@ pub record HasStepped (old new : Parts) (h : ℕ) (state : ModelState) : Type 0 
   pub others : (g : ℕ) → g ≢ h → g < length old.harts →
       IsSeenAs (own_at old.harts g) (own_at new.harts g) (view_of state.committed g)
 
-same_span : (old new : FlatState) → StaysInPlace old new → span_of old ≡ span_of new
-same_span old new stays =
-    ap (λ b. record { base = b; end = b + length old.bytes }) (sym stays.base)
-    ∙ ap (λ n. record { base = new.base; end = new.base + n }) (sym stays.size)
-
 -- these parts are in the state after the event
 stepped_in : (old new : Parts) (hart : HartId) (from : ModelState) → MayAct old hart.number from →
     StaysInPlace from.committed (next from (step_of hart)).state.committed →
@@ -132,11 +127,11 @@ stepped_in old new hart from may stays stepped =
     let left : LeavesOthers from state hart.number = steps_keep_others from (step_of hart) refl in
     record {
       config = stepped.config ∙ may.is_in.config ∙ sym left.config;
-      span = stepped.span ∙ may.is_in.span ∙ same_span from.committed state.committed stays;
+      span = stepped.span ∙ may.is_in.span ∙ sym (span_kept from.committed state.committed stays.shape);
       shows = stepped.shows;
       told = stepped.told;
       one_each = stepped.each ∙ freed_each old from hart.number may ∙ sym left.count;
-      view_each = stepped.each ∙ may.is_in.view_each ∙ sym stays.harts;
+      view_each = stepped.each ∙ may.is_in.view_each ∙ sym stays.shape.harts;
       harts = λ g below. elim (cases_eq g hart.number) [
         | inl own ↦ subst (λ k. IsOfHart new.pool state k (own_at new.harts k)) (sym own) stepped.own
         | inr other ↦
@@ -146,7 +141,7 @@ stepped_in old new hart from may stays stepped =
             (others_stay old from (step_of hart) g (own_at new.harts g) may.reached may.is_in refl other exists
             (stepped.others g other exists))
       ];
-      code = stepped.code ∙ may.is_in.code ∙ sym stays.code;
+      code = stepped.code ∙ may.is_in.code ∙ sym stays.shape.code;
       output = stepped.output ∙ may.is_in.output ∙ sym stays.output;
     }
 
@@ -167,11 +162,6 @@ pub after_step : (old new : Parts) (hart : HartId) (from : ModelState) (section 
 after_step old new hart from section inside stays stepped =
     after_turn old new hart from (section_turn from hart.number section) inside.may
     (turn_is old hart from section inside) stays stepped
-
--- a hart that becomes another twice
-pub set_twice : (state : ModelState) (h : ℕ) (first second : Hart) →
-    with_hart (with_hart state h first) h second ≡ with_hart state h second
-set_twice state h first second = ap (λ harts. record state { harts = harts }) (set-set state.harts h first second)
 
 -- what one hart keeps has changed, and then the bus has, in parts whose bus has
 pub put_in : (old mid : Parts) (between bus : BusState) (h i : ℕ) (own now : OwnState) →
@@ -249,6 +239,10 @@ shows_between bus from between h cache hart now inside is agent armed same =
       memory = is.shows.memory;
     }))
 
+-- a hart that is not armed has no count at the bus
+pub agent_unarmed : (hart : Hart) → hart.armed ≡ None → record (agent_of hart) { armed = 0 } ≡ agent_of hart
+agent_unarmed hart none = ap (λ armed. record (agent_of hart) { armed = armed_count armed }) (sym none)
+
 -- what is committed has changed, and memory is as it was
 pub shows_committed : (bus : BusState) (state : ModelState) (committed : FlatState) →
     KeepsBytes state.committed committed → Shows bus state → Shows bus (record state { committed = committed })
@@ -323,9 +317,6 @@ read_not_plain bus h line cache ready is read plain =
     true_false
     (sym (ap (λ first. first || write_bit cache line) read)
     ∙ no_marks cache line (ap has_marks (sym is) ∙ ready.unmarked plain h))
-  where
-    true_false : true ≡ false → ⊥
-    true_false same = absurd (cc)
 
 -- a line got the read bit in the cache of a hart, and became the most recent one, as the hart became another
 pub marked_cache : (bus : BusState) (h line : ℕ) (cache : Slotted) (from between : ModelState) (hart now : Hart) →

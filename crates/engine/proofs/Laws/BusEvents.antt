@@ -1,13 +1,15 @@
 -- the parts after an event of the bus
-use Rattle.std.proofs.Common.{◌≡◌, ◌≢◌, ◌∙◌, ℕ, zero, suc, ◌+◌, ◌≤◌, ◌<◌, false, List, Option, Some, None, is_some}
+use Rattle.std.proofs.Common.{◌≡◌, ◌≢◌, ◌∙◌, ℕ, zero, suc, ◌≤◌, ◌<◌, false, List, Option, Some, None, is_some}
 use Rattle.std.proofs.Common.{length, refl, ap, sym, subst, arith}
 use Rattle.std.specs.Prelude.{◌==◌, IsSome, if◌then◌else◌, option_map, slice_index}
 use Rattle.std.proofs.lemmas.Bool.Decides.{nat_tests}
 use Rattle.residency.specs.Residency.{Way}
-use Rattle.el_base.specs.Freed.{count_in}
+use Rattle.el_base.specs.Freed.{count_in, order_of}
 use Rattle.el_base.specs.declared.events.Event.{Event}
 use Rattle.el_base.specs.declared.events.Kind.TheVariants as kinds
 use Rattle.el_base.specs.declared.freed.Freed.{Freed}
+use Rattle.el_model.proofs.Laws.BusEvents.{bus_events_are_told_once}
+use Rattle.el_model.specs.BusEvent.{freed_in}
 use Rattle.el_model.proofs.Laws.Restoring.{losers_restored}
 use Rattle.el_base.specs.Winners.{winner_over}
 use Rattle.el_model.specs.Losses.{restored, standing_of}
@@ -33,7 +35,9 @@ use Rattle.line_pool.specs.Pooled.{Pooled}
 use Rattle.policy.specs.Winners.{wins_of}
 use Rattle.run_laws.specs.PrivateRun.{IsChangeBeside, KeepsAllButViews}
 use Rattle.rv_alu.specs.declared.view.HartView.{HartView}
-use Rattle.rv_flat.specs.FlatState.{FlatState, span_of, view_of}
+use Rattle.rv_flat.proofs.Laws.Shapes.{keeps_run, span_kept}
+use Rattle.rv_flat.specs.FlatState.{FlatState, view_of}
+use Rattle.rv_flat.specs.Laws.{KeepsShape}
 use Rattle.rv_flat.specs.Run.{alone}
 use Rattle.section_ctl.specs.State.{Reserved, SectionState, hold_in}
 use Rattle.section_view.proofs.Laws.Surviving.{kept_armed_survive, kept_survive, marks_stay}
@@ -273,12 +277,16 @@ after_bus old mid new state event winner freed bus reached is mid_is new_is show
     subst (λ p. AreRestored p.config.mode winner (λ g. count_in freed g) p.harts new.harts) mid_is restored_mid in
     let keeps = bus_events_keep state event bus in
     let memory = (lets_go state event reached bus).memory in
+    let done = bus_events_are_told_once state event bus in
+    let shape : KeepsShape state.committed (next state event).state.committed =
+    subst (KeepsShape state.committed) (sym done.committed)
+    (keeps_run state.committed (order_of (freed_in state event.hart.number done.start))) in
     let config : new.config ≡ old.config = ap (λ p. p.config) new_is ∙ ap (λ p. p.config) mid_is in
     record {
       config = config ∙ is.config ∙ sym keeps.config;
       span =
           ap (λ p. p.span) new_is ∙ ap (λ p. p.span) mid_is ∙ is.span
-          ∙ same_span state.committed (next state event).state.committed memory;
+          ∙ sym (span_kept state.committed (next state event).state.committed shape);
       shows = subst (λ b. Shows b (next state event).state) (sym (ap (λ p. p.bus) new_is)) shows;
       told =
           subst (λ b. Tells new.pool b (line_of (next state event).state.committed)) (sym (ap (λ p. p.bus) new_is))
@@ -301,11 +309,6 @@ after_bus old mid new state event winner freed bus reached is mid_is new_is show
       code = ap (λ p. p.code) new_is ∙ ap (λ p. p.code) mid_is ∙ is.code ∙ sym memory.code;
       output = ap (λ p. p.output) new_is ∙ ap (λ p. p.output) mid_is ∙ is.output ∙ sym memory.output;
     }
-  where
-    same_span : (old new : FlatState) → KeepsAllButViews old new → span_of old ≡ span_of new
-    same_span old new keeps =
-        ap (λ b. record { base = b; end = b + length old.bytes }) (sym keeps.base)
-        ∙ ap (λ n. record { base = new.base; end = new.base + n }) (sym (ap length keeps.bytes))
 
 -- a loser has a live section
 pub had_section : (old mid : Parts) (stands : EngineStands old) (event : Event) (g winner : ℕ) →

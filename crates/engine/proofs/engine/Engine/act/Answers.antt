@@ -1,10 +1,10 @@
 -- what a hart does in its live section, in its armed one, or outside of a section is its turn
-use Rattle.std.proofs.Common.{◌≡◌, ◌∙◌, ◌<◌, ℕ, length, ap, arith, subst, sym}
+use Rattle.std.proofs.Common.{◌≡◌, ◌∙◌, ◌<◌, ℕ, length, ap, refl, subst, sym}
 use Rattle.std.specs.Option.{option_map}
-use Rattle.std.proofs.lemmas.List.{get_or_read}
 use Rattle.el_base.specs.declared.outcomes.Outcome.{Outcome}
 use Rattle.el_model.specs.Next.{going_turn, outside_turn}
 use Rattle.el_model.specs.State as model
+use Rattle.engine.proofs.Framed.{own_read}
 use Rattle.engine.proofs.Steps.{acts_armed, acts_inside, acts_outside}
 use Rattle.engine.proofs.TakenTurns.{as_well}
 use Rattle.engine.proofs.engine.Engine.act.Goals as goal
@@ -12,8 +12,6 @@ use Rattle.engine.proofs.engine.Engine.act.Goals.{After-armed}
 use Rattle.engine.specs.Acting.{MayAct}
 use Rattle.engine.specs.Parts.{Parts, own_at, parts}
 use Rattle.engine.specs.Turns.{TakesTurn}
-use Rattle.hart_state.specs.Own.{new_own}
-use Rattle.rv_flat.specs.FlatState.{no_hart}
 use Rattle.section_ctl.specs.State.{SectionState, armed_of, section_of}
 
 abbrev GoesOn : Parts → ℕ → Parts → Outcome → Type 0
@@ -24,17 +22,11 @@ GoesOn old h new result =
 kept_is : (c : After-armed) →
     (own_at (parts c.fetch_action-action.new.self).harts c.args.hart.number).section ≡ c.section-section.result.now
 kept_is c =
-    let mid = parts c.fetch_action-action.new.self in
-    let inside : c.from.result < length mid.harts =
-    omega (
-      arith,
-      c.from.ensures,
-      ap (λ p. length p.harts) c.fetch_action-action.ensures.same,
-      c.requires.may.exists,
-    ) in
-    let own_is =
-    get_or_read _ _ _ inside c.index.ensures (new_own no_hart 0 0) ∙ ap (own_at mid.harts) c.from.ensures in
-    ap (λ own. own.section) (sym own_is) ∙ sym c.section-section.ensures
+    let harts = (parts c.fetch_action-action.new.self).harts in
+    let exists =
+    subst (λ p. c.args.hart.number < length p.harts) (sym c.fetch_action-action.ensures.same) c.requires.may.exists in
+    ap (λ own. own.section) (sym (own_read _ harts _ _ _ refl c.from.ensures exists c.index.ensures))
+    ∙ sym c.section-section.ensures
 
 pub returns-in-Some-default : goal.returns-in-Some-default
 returns-in-Some-default c =

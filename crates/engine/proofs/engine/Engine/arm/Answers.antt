@@ -1,6 +1,5 @@
 -- the action is a load reserved, whose line is there, and the parts are in the state after it
-use Rattle.std.proofs.Common.{◌≡◌, ◌∙◌, ◌<◌, length, ap, arith, subst, sym, true}
-use Rattle.std.proofs.lemmas.List.{get_or_read}
+use Rattle.std.proofs.Common.{◌≡◌, ◌∙◌, ap, subst, sym, true}
 use Rattle.residency.specs.Cache.{is_resident}
 use Rattle.coherence.specs.Lent.{slotted_at}
 use Rattle.core_step.proofs.Laws.Runs.{aligned}
@@ -8,6 +7,7 @@ use Rattle.core_step.specs.Run.{IsAligned}
 use Rattle.el_model.specs.Plain.{Arms, by_plain_rule}
 use Rattle.engine.proofs.AfterArmed.{armed_in, armed_ready, arms_outcome, inside_bus, still_there}
 use Rattle.engine.proofs.Chosen.{arms_not_plain, reserved_there, reserves_next}
+use Rattle.engine.proofs.Framed.{own_read}
 use Rattle.engine.proofs.StandsOutside.{no_armed, no_live, runs}
 use Rattle.engine.proofs.Stepped.{set_in}
 use Rattle.engine.proofs.Laws.Swaps.{reserve_aligned, same_reserve}
@@ -15,8 +15,7 @@ use Rattle.engine.proofs.engine.Engine.arm.Goals as goal
 use Rattle.engine.specs.Beginning.{IsReadMarked}
 use Rattle.engine.specs.Parts.{IsInState, own_at, parts}
 use Rattle.hart_state.specs.Deeds.{armed_own}
-use Rattle.hart_state.specs.Own.{OwnState, new_own}
-use Rattle.rv_flat.specs.FlatState.{no_hart}
+use Rattle.hart_state.specs.Own.{OwnState}
 use Rattle.snoop.specs.Returned.{returned}
 use Rattle.snoop.specs.Shows.{IsReady, bus_state}
 
@@ -40,12 +39,8 @@ mark_read-requires-clause-resident c =
 -- what the hart keeps is as it was
 kept_own : (c : goal.After-index_mut) → c.index_mut.result.now ≡ own_at (parts c.args.self.now).harts c.args.hart.number
 kept_own c =
-    let mid = parts c.mark_read.new.self in
-    let same = ap (λ p. p.harts) c.mark_read.ensures.new_is in
-    let inside : c.from.result < length mid.harts =
-    omega (arith, c.from.ensures, ap length same, c.requires.some.acts.may.exists) in
-    get_or_read _ _ _ inside c.index_mut.ensures.value (new_own no_hart 0 0) ∙ ap (own_at mid.harts) c.from.ensures
-    ∙ ap (λ harts. own_at harts c.args.hart.number) same
+    own_read _ (parts c.args.self.now).harts _ c.args.hart.number _ (ap (λ p. p.harts) c.mark_read.ensures.new_is)
+    c.from.ensures c.requires.some.acts.may.exists c.index_mut.ensures.value
 
 pub arm-requires-clause-none : goal.arm-requires-clause-none
 arm-requires-clause-none c =
@@ -90,11 +85,9 @@ returns c =
     let marks =
     subst (λ line. IsReadMarked (slotted_at bus.copies.caches h) cache line) c.line_of.ensures
     c.mark_read.ensures.marked in
-    let same = ap (λ p. p.harts) c.mark_read.ensures.new_is in
-    let inside : c.from.result < length (parts c.mark_read.new.self).harts =
-    omega (arith, c.from.ensures, ap length same, c.requires.some.acts.may.exists) in
-    let kept_is = get_or_read _ _ _ inside c.index_mut.ensures.value (new_own no_hart 0 0)
-    ∙ ap (own_at (parts c.mark_read.new.self).harts) c.from.ensures ∙ ap (λ harts. own_at harts h) same in
+    let kept_is =
+    own_read _ old.harts _ h _ (ap (λ p. p.harts) c.mark_read.ensures.new_is) c.from.ensures
+    c.requires.some.acts.may.exists c.index_mut.ensures.value in
     let own : OwnState = armed_own c.args.word c.args.old c.in-LoadReserved.rd.number (own_at old.harts h) in
     let new_is =
     set_in old (parts c.mark_read.new.self) (returned bus h cache) h c.from.result c.arm.new.self own

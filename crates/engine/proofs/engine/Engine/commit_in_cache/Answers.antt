@@ -1,14 +1,12 @@
 -- the section has taken effect in the hart's cache
-use Rattle.std.proofs.Common.{◌∙◌, ◌<◌, length, ap, arith, subst}
-use Rattle.std.proofs.lemmas.List.{get_or_read}
-use Rattle.engine.proofs.Framed.{put_own}
+use Rattle.std.proofs.Common.{◌∙◌, ap, refl, subst}
+use Rattle.engine.proofs.Framed.{own_read, put_own}
 use Rattle.engine.proofs.engine.Engine.commit_in_cache.Goals as goal
 use Rattle.engine.specs.Acting.{sets_in}
-use Rattle.engine.specs.Parts.{own_at, parts}
+use Rattle.engine.specs.Parts.{parts}
 use Rattle.engine.specs.Private.{CommitsOver}
 use Rattle.hart_state.specs.Deeds.{committed_own}
-use Rattle.hart_state.specs.Own.{OwnState, new_own}
-use Rattle.rv_flat.specs.FlatState.{no_hart}
+use Rattle.hart_state.specs.Own.{OwnState}
 
 pub returns : goal.returns
 returns c =
@@ -17,9 +15,8 @@ returns c =
     let pool = c.commit.new.pool in
     let cache = c.commit.new.sets in
     let section = c.commit.new.self.section in
-    let inside : c.from.result < length old.harts = omega (arith, c.from.ensures, c.requires.may.there.hart_exists) in
-    let own_is = get_or_read _ _ _ inside c.index_mut.ensures.value (new_own no_hart 0 0)
-    ∙ ap (own_at old.harts) c.from.ensures in
+    let own_is =
+    own_read _ old.harts _ h _ refl c.from.ensures c.requires.may.there.hart_exists c.index_mut.ensures.value in
     record {
       pool = pool;
       cache = cache;

@@ -1,10 +1,10 @@
 -- the acquire of an armed section is elided: the action is a store conditional, and the parts are in the state after it
-use Rattle.std.proofs.Common.{◌≡◌, ◌∙◌, ◌<◌, length, ap, arith, subst, sym, true}
-use Rattle.std.proofs.lemmas.List.{get_or_read}
+use Rattle.std.proofs.Common.{◌≡◌, ◌∙◌, ap, subst, sym, true}
 use Rattle.residency.specs.Cache.{is_resident}
 use Rattle.el_model.specs.Armed.{armed_turn}
 use Rattle.engine.proofs.ArmedRules.{elides_outcome}
 use Rattle.engine.proofs.Eliding.{agent_there, conditional_there, elided_in, marked_for, marked_ready, waits_not}
+use Rattle.engine.proofs.Framed.{own_read}
 use Rattle.engine.proofs.KeptPrivate.{keeps_private, word_line_there}
 use Rattle.engine.proofs.PrivateCalls.{armed_some, of_armed}
 use Rattle.engine.proofs.Stepped.{put_in}
@@ -13,8 +13,6 @@ use Rattle.engine.specs.Acting.{sets_in}
 use Rattle.engine.specs.Beginning.{IsReadMarked}
 use Rattle.engine.specs.Parts.{IsInState, own_at, parts}
 use Rattle.hart_state.specs.Deeds.{elided_own}
-use Rattle.hart_state.specs.Own.{new_own}
-use Rattle.rv_flat.specs.FlatState.{no_hart}
 use Rattle.section_ctl.specs.State.{Reserved, armed_of}
 use Rattle.snoop.specs.Leaving.{LeavesNoted}
 use Rattle.snoop.specs.Returned.{returned}
@@ -45,12 +43,9 @@ begin_armed-requires c =
     let old = parts c.args.self.now in
     let h = c.args.hart.number in
     let mid = parts c.mark_read.new.self in
-    let same = ap (λ p. p.harts) c.mark_read.ensures.new_is in
-    let inside : c.from.result < length mid.harts =
-    omega (arith, c.from.ensures, ap length same, c.requires.follows.follows.acts.may.exists) in
     let own_is =
-    get_or_read _ _ _ inside c.index_mut.ensures.value (new_own no_hart 0 0) ∙ ap (own_at mid.harts) c.from.ensures
-    ∙ ap (λ harts. own_at harts h) same in
+    own_read _ old.harts _ h _ (ap (λ p. p.harts) c.mark_read.ensures.new_is) c.from.ensures
+    c.requires.follows.follows.acts.may.exists c.index_mut.ensures.value in
     armed_some old h (armed_of c.args.armed) c.requires.follows.from c.requires.follows.follows.acts
     c.index_mut.result.now own_is
 
@@ -104,12 +99,9 @@ returns c =
     let noted =
     subst (λ b. LeavesNoted h 0 b (bus_state c.note_armed.new.self)) (ap (λ p. p.bus) c.mark_read.ensures.new_is)
     c.note_armed.ensures in
-    let same = ap (λ p. p.harts) c.mark_read.ensures.new_is in
-    let inside : c.from.result < length mid.harts =
-    omega (arith, c.from.ensures, ap length same, c.requires.follows.follows.acts.may.exists) in
     let own_is =
-    get_or_read _ _ _ inside c.index_mut.ensures.value (new_own no_hart 0 0) ∙ ap (own_at mid.harts) c.from.ensures
-    ∙ ap (λ harts. own_at harts h) same in
+    own_read _ old.harts _ h _ (ap (λ p. p.harts) c.mark_read.ensures.new_is) c.from.ensures
+    c.requires.follows.follows.acts.may.exists c.index_mut.ensures.value in
     record {
       ready = c.open_attempt.ensures.ready;
       state = λ from follows.

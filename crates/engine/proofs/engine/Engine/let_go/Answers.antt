@@ -1,16 +1,13 @@
 -- an armed section is let go: the bus is ready again, and the parts are in the state after it
-use Rattle.std.proofs.Common.{◌∙◌, ◌<◌, length, ap, arith, subst, sym}
+use Rattle.std.proofs.Common.{◌∙◌, ap, refl, subst, sym}
 use Rattle.std.specs.Prelude.{slice_set}
-use Rattle.std.proofs.lemmas.List.{get_or_read}
 use Rattle.el_model.specs.Armed.{armed_turn}
-use Rattle.engine.proofs.Framed.{IsClearedThere, cleared_there}
+use Rattle.engine.proofs.Framed.{IsClearedThere, cleared_there, own_read}
 use Rattle.engine.proofs.ArmedRules.{lets_go_outcome}
 use Rattle.engine.proofs.ArmedSteps.{let_go_in, unmarked_ready}
 use Rattle.engine.proofs.engine.Engine.let_go.Goals as goal
-use Rattle.engine.specs.Parts.{IsInState, own_at, parts}
+use Rattle.engine.specs.Parts.{IsInState, parts}
 use Rattle.hart_state.specs.Deeds.{let_go_own}
-use Rattle.hart_state.specs.Own.{new_own}
-use Rattle.rv_flat.specs.FlatState.{no_hart}
 use Rattle.section_ctl.specs.State.{armed_of}
 use Rattle.snoop.specs.Shows.{bus_state}
 
@@ -31,10 +28,9 @@ returns c =
     let clears = subst (λ sets. IsClearedThere sets c.clear_bits.new.self) c.sets_mut.ensures.value
     (cleared_there c.sets_mut.result.now c.clear_bits.new.self c.clear_bits.ensures.cleared c.clear_bits.ensures.lent
     c.clear_bits.ensures.owner) in
-    let inside : c.from.result < length old.harts =
-    omega (arith, c.from.ensures, c.requires.follows.follows.acts.may.exists) in
-    let kept_is = get_or_read _ _ _ inside c.index_mut.ensures.value (new_own no_hart 0 0)
-    ∙ ap (own_at old.harts) c.from.ensures in
+    let kept_is =
+    own_read _ old.harts _ h _ refl c.from.ensures c.requires.follows.follows.acts.may.exists
+    c.index_mut.ensures.value in
     let harts = ap (λ i. slice_set old.harts i c.let_go.new.self) c.from.ensures
     ∙ ap (slice_set old.harts h) (c.let_go.ensures.own ∙ ap let_go_own kept_is) in
     record {

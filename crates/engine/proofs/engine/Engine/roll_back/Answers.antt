@@ -1,18 +1,16 @@
 -- a hart rolls its section back: the bus is ready again, and the parts are in the state after it
-use Rattle.std.proofs.Common.{◌≡◌, ◌∙◌, ◌<◌, length, ap, arith, subst, sym}
+use Rattle.std.proofs.Common.{◌≡◌, ◌∙◌, ap, refl, subst, sym}
 use Rattle.std.specs.Prelude.{slice_set}
-use Rattle.std.proofs.lemmas.List.{get_or_read}
 use Rattle.coherence.specs.Lent.{slotted_at}
 use Rattle.el_model.specs.InSection.{section_turn}
-use Rattle.engine.proofs.Framed.{IsClearedThere, cleared_there}
+use Rattle.engine.proofs.Framed.{IsClearedThere, cleared_there, own_read}
 use Rattle.engine.proofs.RolledBack.{clock_small, has_cache, rolled_in, rolled_ready, rolls_turn, seen_small}
 use Rattle.engine.proofs.engine.Engine.roll_back.Goals as goal
 use Rattle.engine.specs.Acting.{freed}
 use Rattle.engine.specs.Parts.{IsInState, own_at, parts}
 use Rattle.hart_state.specs.Deeds.{rolled_back_own}
-use Rattle.hart_state.specs.Own.{OwnState, new_own}
+use Rattle.hart_state.specs.Own.{OwnState}
 use Rattle.line_pool.specs.Others.{LeavesOthers}
-use Rattle.rv_flat.specs.FlatState.{no_hart}
 use Rattle.snoop.specs.Returned.{returned}
 use Rattle.snoop.specs.Shows.{bus_state}
 use Rattle.write_hold.specs.Slotted.{IsLent}
@@ -35,10 +33,8 @@ sets_mut-requires c =
 own_is : (c : goal.After-roll_back-arg-1) →
     c.index_mut.result.now ≡ own_at (parts c.args.self.now).harts c.args.hart.number
 own_is c =
-    let old = parts c.args.self.now in
-    let inside : c.from.result < length old.harts =
-    omega (arith, c.from.ensures, c.requires.follows.inside.may.exists) in
-    get_or_read _ _ _ inside c.index_mut.ensures.value (new_own no_hart 0 0) ∙ ap (own_at old.harts) c.from.ensures
+    own_read _ (parts c.args.self.now).harts _ c.args.hart.number _ refl c.from.ensures
+    c.requires.follows.inside.may.exists c.index_mut.ensures.value
 
 pub roll_back-requires-clause-lent : goal.roll_back-requires-clause-lent
 roll_back-requires-clause-lent c =
@@ -63,9 +59,7 @@ returns c section =
     let cache = c.clear_bits.new.self in
     let pool = c.roll_back.new.pool in
     let some = c.requires.follows.inside.may in
-    let inside : c.from.result < length old.harts = omega (arith, c.from.ensures, some.exists) in
-    let own_is = get_or_read _ _ _ inside c.index_mut.ensures.value (new_own no_hart 0 0)
-    ∙ ap (own_at old.harts) c.from.ensures in
+    let own_is = own_read _ old.harts _ h _ refl c.from.ensures some.exists c.index_mut.ensures.value in
     let own_then = c.roll_back.ensures.own ∙ ap (rolled_back_own c.args.cause) own_is in
     let harts =
     ap (λ i. slice_set old.harts i c.roll_back.new.self) c.from.ensures ∙ ap (slice_set old.harts h) own_then in

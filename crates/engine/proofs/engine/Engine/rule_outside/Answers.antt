@@ -1,17 +1,16 @@
 -- the rule is that of the state in which the hart holds nothing any more
-use Rattle.std.proofs.Common.{◌≡◌, ◌∙◌, ◌<◌, ap, arith, length, sym, subst}
-use Rattle.std.proofs.lemmas.List.{get_or_read}
+use Rattle.std.proofs.Common.{◌∙◌, ap, refl, sym, subst}
 use Rattle.core_step.proofs.Laws.Runs.{aligned}
 use Rattle.core_step.specs.Run.{IsAligned}
 use Rattle.el_model.specs.Plain.{may_elide}
 use Rattle.el_model.specs.State.{hart_of}
+use Rattle.engine.proofs.Framed.{own_read}
 use Rattle.engine.proofs.PlainRules.{freed_rule}
 use Rattle.engine.proofs.StandsOutside.{action_is, elides_is, inside, is_own, lends, on_line}
 use Rattle.engine.proofs.engine.Engine.rule_outside.Goals as goal
 use Rattle.engine.specs.Acting.{freed}
-use Rattle.engine.specs.Parts.{own_at, parts}
-use Rattle.hart_state.specs.Own.{HasOwn, committed_pc, new_own}
-use Rattle.rv_flat.specs.FlatState.{no_hart}
+use Rattle.engine.specs.Parts.{parts}
+use Rattle.hart_state.specs.Own.{HasOwn, committed_pc}
 
 pub plain_rule-requires-clause-aligned : goal.plain_rule-requires-clause-aligned
 plain_rule-requires-clause-aligned c = subst IsAligned (sym c.requires.action) (aligned _ _ _ _)
@@ -22,9 +21,7 @@ returns-clause-rule c from acts =
     let h = c.args.hart.number in
     let hart = hart_of (freed from h) h in
     let mode = c.args.self.now.config.mode in
-    let within : c.from.result < length c.args.self.now.harts.items = omega (arith, c.from.ensures, acts.may.exists) in
-    let same : c.index.result.now ≡ own_at now.harts h =
-    get_or_read _ _ _ within c.index.ensures (new_own no_hart 0 0) ∙ ap (own_at now.harts) c.from.ensures in
+    let same = own_read _ now.harts _ h _ refl c.from.ensures acts.may.exists c.index.ensures in
     sym (freed_rule from h (inside now h from acts))
     ∙ sym (c.plain_rule.ensures.rule (freed from h) acts.may.is_in.shows acts.may.is_in.told (on_line now h from acts)
     (c.requires.action ∙ action_is now h from acts)

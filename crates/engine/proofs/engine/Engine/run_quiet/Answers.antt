@@ -1,28 +1,24 @@
 -- the hart's view alone is another one
-use Rattle.std.proofs.Common.{◌≡◌, ◌∙◌, ◌<◌, ap, arith, length, sym}
+use Rattle.std.proofs.Common.{◌≡◌, ◌∙◌, ap, refl, sym}
 use Rattle.std.specs.Prelude.{option_map, slice_set}
-use Rattle.std.proofs.lemmas.List.{get_or_read}
 use Rattle.cache_sets.specs.Cached.{cached_byte}
+use Rattle.engine.proofs.Framed.{own_read}
 use Rattle.engine.proofs.QuietRuns.{view_alone, quiet_turn}
 use Rattle.engine.proofs.engine.Engine.run_quiet.Goals as goal
 use Rattle.engine.specs.Acting.{cache_in}
 use Rattle.engine.specs.Outside.{execution_in}
 use Rattle.engine.specs.Parts.{own_at, parts, present_at}
 use Rattle.hart_state.specs.Lending.{with_view}
-use Rattle.hart_state.specs.Own.{new_own}
 use Rattle.rv_alu.specs.Execution.{perform, view_after}
 use Rattle.rv_alu.specs.Loaded.{loaded}
-use Rattle.rv_flat.specs.FlatState.{no_hart}
 
 pub returns : goal.returns
 returns c =
     let now = parts c.args.self.now in
     let h = c.args.hart.number in
     let byte = cached_byte (cache_in now h) in
-    let within : c.from.result < length c.args.self.now.harts.items =
-    omega (arith, c.from.ensures, c.requires.some.acts.may.exists) in
-    let same : c.index_mut.result.now ≡ own_at now.harts h =
-    get_or_read _ _ _ within c.index_mut.ensures.value (new_own no_hart 0 0) ∙ ap (own_at now.harts) c.from.ensures in
+    let same =
+    own_read _ now.harts _ h _ refl c.from.ensures c.requires.some.acts.may.exists c.index_mut.ensures.value in
     let present : c.view_mut.result.now ≡ present_at now.harts h =
     c.view_mut.ensures.value ∙ ap (λ own. own.section.marks.present) same in
     let reads = (view_alone c.args.action c.requires.quiet).reads in

@@ -76,6 +76,16 @@ pub record RanPrivately (old new : Parts) (h : ℕ) (action : Action) : Type 0 w
   pub over : RanOver old.pool pool (sets_in old h) cache (kept_of old h) section action
   pub new_is : new ≡ with_own old h pool cache (buffered_own section (own_at old.harts h))
 
+-- what is touched got its bit, and the action ran in the hart's live section over the cache that has it
+pub record BuffersIn (old new : Parts) (h : ℕ) (touch : Option Touch) (action : Action) : Type 0 where
+  pub marked : Slotted
+  pub bit : HasItsBitNow (sets_in old h) marked touch
+  pub pool : Pooled
+  pub cache : Slotted
+  pub section : SectionState
+  pub over : RanOver old.pool pool marked cache (kept_of old h) section action
+  pub new_is : new ≡ with_own old h pool cache (buffered_own section (own_at old.harts h))
+
 -- a hart's live section may take effect, whose release this action is
 pub record MayTakeEffect (parts : Parts) (h : ℕ) (action : Action) : Type 0 where
   pub there : IsLentThere parts h

@@ -9,7 +9,7 @@ ghost use Rattle.engine.specs.Acting.{next_action, sets_in};
 ghost use Rattle.engine.specs.Covered.{HasItsBitNow, IsTouchedThere};
 ghost use Rattle.engine.specs.Inside.{FollowsRule, FollowsSomewhere};
 ghost use Rattle.engine.specs.Parts.{parts};
-ghost use Rattle.engine.specs.Private.{HasCovered, MayRunPrivately, RanPrivately};
+ghost use Rattle.engine.specs.Private.{BuffersIn, HasCovered, MayRunPrivately, RanPrivately};
 ghost use Rattle.engine.specs.Turns.{TakesTurn};
 ghost use Rattle.step_rules.specs.Actions.{numbered_touch};
 
@@ -28,9 +28,18 @@ impl Engine {
             (λ from. FollowsRule (parts self.old) hart.number from section (Buffers (option_map numbered_touch touch)))
             (λ from. section_turn from hart.number section) (parts self.old) (parts self.new) result }
     {
+        self.buffer_in_cache(hart, action, touch);
+        Outcome::Buffered
+    }
+
+    /// What the action touches gets its bit in the hart's cache, over which the action runs.
+    fn buffer_in_cache(&mut self, hart: HartId, action: Action, touch: Option<Touch>)
+        requires follows { FollowsSomewhere (parts self.old) hart.number (Buffers (option_map numbered_touch touch)) }
+        requires action { action ≡ next_action (parts self.old) hart.number }
+        ensures { BuffersIn (parts self.old) (parts self.new) hart.number (option_map numbered_touch touch) action }
+    {
         self.cover(hart, touch);
         self.run_privately(hart, action);
-        Outcome::Buffered
     }
 
     /// A line that is touched gets the bit of its need in a hart's cache, where it has it not.

@@ -555,7 +555,7 @@ commits_over parts mid h pool cache after action before over =
     (record { pool = sym before.pool; copies = sym before.copies; count = sym before.count; own = sym before.own })
     (λ p sets own. CommitsOver p pool sets cache own.section after action) over
 
--- how many instructions it has with its release
+-- it has a live section, and one more instruction can be counted
 pub is_live_there : (parts : Parts) (h : ℕ) (from : ModelState) (section : Section) →
     FollowsRule parts h from section Commits → IsSome (own_at parts.harts h).section.live
 is_live_there parts h from section follows =

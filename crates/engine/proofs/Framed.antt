@@ -180,7 +180,7 @@ told_copies pool old new bytes same tells = subst (λ copies. TellsIn pool copie
 pub tells_memory : (parts : Parts) (state : ModelState) → IsInState parts state →
     TellsMemory (lent_copies parts.pool parts.bus.copies) state.committed
 tells_memory parts state is = record {
-  placed = record { first = is.shows.memory.first; size = is.shows.memory.lines };
+  placed = is.shows.memory;
   bytes = is.told.told;
 }
 

@@ -1,16 +1,14 @@
 -- what one event keeps of live sections, by the laws of the machine's definition
 use Rattle.std.proofs.Common.{◌≡◌, ◌∙◌, ◌⊎◌, ℕ, [], ◌∷◌, ap, inl, inr, refl, subst, sym}
 use Rattle.std.specs.Prelude.{IsSome}
-use Rattle.std.proofs.lemmas.Option.{same_Some}
 use Rattle.chronicle.specs.Chronicle.{events}
-use Rattle.el_base.specs.declared.config.Mode.TheVariants.{Tlr}
 use Rattle.el_base.specs.declared.events.Event.{Event}
 use Rattle.el_base.specs.declared.outcomes.Outcome.{Outcome}
 use Rattle.el_base.specs.Winners.{winner_over}
 use Rattle.el_model.specs.Next.{next}
 use Rattle.engine.specs.Parts.{Parts}
 use Rattle.machine.proofs.Laws.Continued.{state_of_continued}
-use Rattle.machine.specs.Promises.{Change, EndsAreNamed, EndsIt, HeadOfLeastIsServed, KeepsPromises, OthersAreUntouched}
+use Rattle.machine.specs.Promises.{Change, EndsAreNamed, EndsIt, KeepsPromises, OthersAreUntouched}
 use Rattle.machine.specs.Promises.{ReleasesTakeEffect, change}
 use Rattle.machine.specs.Stands.{IsGiven, MachineStands}
 use Rattle.machine.specs.Story.{Story, continued, state_of}
@@ -42,11 +40,6 @@ ends story room event given h live over =
     by (inl itself) = inl (record { own = itself.own; step = itself.step; how = itself.how })
     by (inr beaten) = inr (subst IsSome (sym beaten.names) refl)
 
-head : (story : Story) (event : Event) → story.config.mode ≡ Tlr → HeadOfLeastIsServed (made story event)
-head story event removal h line first waits is_first kind own =
-    let on = line_of_least_stamp_moves_on story.program story.config (events story.entries) h line removal waits in
-    on.served event kind (own ∙ ap (λ request. request.hart) (same_Some _ _ (sym is_first ∙ on.is_head)))
-
 release : (story : Story) (event : Event) → ReleasesTakeEffect story.config.long (made story event)
 release story event section step live free short comes =
     let done =
@@ -70,7 +63,8 @@ keeps story room event given = record {
   least =
       λ removal h stamp. least_stamp_never_loses story.program story.config (events story.entries) event
       h stamp removal;
-  head = head story event;
+  line =
+      λ removal h line. line_of_least_stamp_moves_on story.program story.config (events story.entries) h line removal;
   stamps = λ h stamp kept. stamps_are_kept (state_of story) h (event ∷ []) stamp (kept, tt);
   release = release story event;
   others = others story room event given;

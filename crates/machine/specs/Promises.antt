@@ -1,7 +1,6 @@
 -- what one event keeps of live sections, of their stamps and of what other harts see
 use Rattle.std.specs.Prelude.{ℕ, ◌≡◌, ◌≢◌, ◌+◌, ◌==◌, ◌&&◌, ◌||◌, ◌⊎◌, ◌<◌, Bool, true, false, List, None, Some, IsSome}
 use Rattle.std.specs.Prelude.{length, slice_index}
-use Rattle.bus_order.specs.Order.{Request}
 use Rattle.el_base.specs.declared.config.Config.{Config}
 use Rattle.el_base.specs.declared.config.Mode.TheVariants.{Tlr}
 use Rattle.el_base.specs.declared.events.Event.{Event}
@@ -10,11 +9,11 @@ use Rattle.el_base.specs.declared.outcomes.Outcome.{Outcome}
 use Rattle.el_base.specs.declared.outcomes.Outcome.TheVariants.{Committed}
 use Rattle.el_model.specs.InSection.{shown_in}
 use Rattle.el_base.specs.Winners.{winner_over}
-use Rattle.el_model.specs.State.{ModelState, Section, has_request, head_of, is_live, section_of}
+use Rattle.el_model.specs.State.{ModelState, Section, has_request, is_live, section_of}
 use Rattle.el_model.specs.Upcoming.{is_release}
 use Rattle.machine.specs.Story.{Story, state_of}
-use Rattle.progress_laws.specs.LeastStamp.{LeastWaits}
-use Rattle.progress_laws.specs.RemovalLaws.{HasLeast, IsLocked, LosesToEarlier, attempt_of, is_served}
+use Rattle.progress_laws.specs.LeastStamp.{LeastWaits, MovesOn}
+use Rattle.progress_laws.specs.RemovalLaws.{HasLeast, LosesToEarlier, attempt_of}
 use Rattle.engine.specs.RunLaws.{IsUntouched}
 use Rattle.rv_flat.specs.Memory.{byte_in}
 use Rattle.rv_flat.specs.Run.{alone}
@@ -58,13 +57,10 @@ LosesToLess change = (h winner : ℕ) → winner_over change.outcome h ≡ Some 
 abbrev pub LeastStays : Change → Type 0
 LeastStays change = (h : ℕ) (stamp : Stamp) → HasLeast change.old h stamp → winner_over change.outcome h ≡ None
 
--- where the hart of the least stamp waits for a line, and all messages about that line are delivered, a serve of the
--- line's first request is served, or blocked by a hart that holds the line until its next step
-abbrev pub HeadOfLeastIsServed : Change → Type 0
-HeadOfLeastIsServed change =
-    (h line : ℕ) (head : Request) → LeastWaits change.old h line → head_of change.old line ≡ Some head →
-    change.event.kind ≡ kinds.Serve → change.event.hart.number ≡ head.hart →
-    (is_served change.outcome ≡ true) ⊎ IsLocked change.old line change.outcome
+-- where the hart of the least stamp waits for a line, and all messages about that line are delivered, no live section
+-- retains the line, and a serve of its first request is served, or blocked by a hart that holds it until its next step
+abbrev pub LineOfLeastMovesOn : ModelState → Type 0
+LineOfLeastMovesOn state = (h line : ℕ) → LeastWaits state h line → MovesOn state line
 
 -- a hart keeps its stamp until its attempt closes
 abbrev pub StampsStay : Change → Type 0
@@ -96,7 +92,7 @@ pub record KeepsPromises (config : Config) (change : Change) : Type 0 where
   pub ends : EndsAreNamed change
   pub losers : config.mode ≡ Tlr → LosesToLess change
   pub least : config.mode ≡ Tlr → LeastStays change
-  pub head : config.mode ≡ Tlr → HeadOfLeastIsServed change
+  pub line : config.mode ≡ Tlr → LineOfLeastMovesOn change.old
   pub stamps : StampsStay change
   pub release : ReleasesTakeEffect config.long change
   pub others : OthersAreUntouched change

@@ -41,8 +41,8 @@ ghost use Rattle.machine.specs.Lending.{LendsSection, LendsState, TellsRun, Tell
 ghost use Rattle.machine.specs.MainMemory.{main_lines};
 ghost use Rattle.machine.specs.Promises.{
   EndsAreNamed,
-  HeadOfLeastIsServed,
   LeastStays,
+  LineOfLeastMovesOn,
   LosesToLess,
   OthersAreUntouched,
   ReleasesTakeEffect,
@@ -145,10 +145,10 @@ impl Machine {
     /// among the losers; one whose hart did not step shows the same view, and the same of each byte whose committed value
     /// stays; at its release a section takes effect whole. A stamp stays until its attempt closes. In lock removal each
     /// loser lost to a hart that waits with a less stamp, and the least stamp never loses; where its hart waits for a
-    /// line and the messages about that line are delivered, a serve of the line's first request is served, or blocked by
-    /// a hart that holds the line until its next step. The last three are the idea of R. Rajwar and J. R. Goodman,
-    /// 'Transactional Lock-Free Execution of Lock-Based Programs', ASPLOS 2002, and the first three that of their
-    /// 'Speculative Lock Elision', MICRO 2001.
+    /// line and the messages about that line are delivered, no live section retains the line, and a serve of its first
+    /// request is served, or blocked by a hart that holds the line until its next step, which is progress. The last three
+    /// are the idea of R. Rajwar and J. R. Goodman, 'Transactional Lock-Free Execution of Lock-Based Programs', ASPLOS
+    /// 2002, and the first three that of their 'Speculative Lock Elision', MICRO 2001.
     #[inline(always)]
     #[tactic(auto, using(crate::proofs::GoesOn::told_more))]
     pub fn step(&mut self, event: Event) -> Outcome
@@ -160,8 +160,7 @@ impl Machine {
         ensures ends_are_named { EndsAreNamed (change self.old event result self.new) }
         ensures losers_lost_to_less { self.old.config.mode ≡ Tlr → LosesToLess (change self.old event result self.new) }
         ensures least_never_loses { self.old.config.mode ≡ Tlr → LeastStays (change self.old event result self.new) }
-        ensures head_of_least_is_served { self.old.config.mode ≡ Tlr →
-            HeadOfLeastIsServed (change self.old event result self.new) }
+        ensures line_of_least_moves_on { self.old.config.mode ≡ Tlr → LineOfLeastMovesOn (state_of self.old) }
         ensures stamps_stay { StampsStay (change self.old event result self.new) }
         ensures releases_commit { ReleasesTakeEffect self.old.config.long (change self.old event result self.new) }
         ensures others_are_untouched { OthersAreUntouched (change self.old event result self.new) }

@@ -9,57 +9,51 @@ use Rattle.std.proofs.lemmas.List.Elements.{All-cons, All-nil}
 use Rattle.std.proofs.lemmas.Option.{same_Some}
 use Rattle.bus_order.proofs.Laws.Orders.{one_each_removed}
 use Rattle.bus_order.proofs.Laws.Queues.{request_of_first_of}
-use Rattle.bus_order.specs.Order.{IsOneEach, Request}
+use Rattle.bus_order.specs.Order.{IsOneEach, Request, first_of, removed}
 use Rattle.defer_list.specs.HartSet.{has}
+use Rattle.el_base.proofs.Laws.Cases.{none_some}
 use Rattle.el_base.proofs.Laws.HartIds.{hart_id-number}
 use Rattle.el_base.proofs.Laws.MadeLosers.{count_in-beyond, count_in-freed_of, named_by_map, none_in_no_one}
 use Rattle.el_base.proofs.Laws.Ranges.{harts_in_range}
 use Rattle.el_base.specs.Config.{IsInRange}
 use Rattle.residency.specs.Cache.{has_bit}
 use Rattle.el_base.specs.Freed.{count_in, no_one_freed}
-use Rattle.el_base.specs.Losers.{beaten_by, losers_of}
 use Rattle.el_base.specs.Winners.{winner_over}
 use Rattle.el_base.specs.declared.config.Config.{Config}
 use Rattle.el_base.specs.declared.config.Mode.{Mode}
 use Rattle.el_base.specs.declared.config.Mode.TheVariants.{Plain, Sle, Tlr}
 use Rattle.el_base.specs.declared.events.Event.{Event}
-use Rattle.el_base.specs.declared.events.Kind.{Kind}
-use Rattle.el_base.specs.declared.events.Kind.TheVariants as kinds
-use Rattle.el_base.specs.declared.losers.Losers.{Losers}
+use Rattle.el_base.specs.declared.outcomes.Cause.TheVariants.{Long}
 use Rattle.el_base.specs.declared.outcomes.Outcome.{Outcome}
+use Rattle.el_base.specs.declared.outcomes.Outcome.TheVariants.{Blocked, Committed, Delivered, LetGo, Ordered, Served}
 use Rattle.el_base.specs.declared.outcomes.Why.{Why}
 use Rattle.el_base.specs.declared.outcomes.Why.TheVariants.{Behind, Retained, Locked}
 use Rattle.el_base.proofs.Laws.Tests.{false_between, second_of_both}
-use Rattle.el_model.proofs.Laws.Deeds.{step_deed}
+use Rattle.el_model.proofs.Laws.BusEvents.{bus_events_are_told_once}
+use Rattle.el_model.proofs.Laws.Coming.{by_their_rules}
 use Rattle.el_model.proofs.Laws.Folds.{state_after-append}
 use Rattle.el_model.proofs.Laws.FromStart.{kept_after, next_config}
 use Rattle.el_model.proofs.Laws.Harts.{hart_of-past}
 use Rattle.el_model.proofs.Laws.Keeps.{keeps_before_face, keeps_served}
+use Rattle.el_model.proofs.Laws.Orders.{order_as_faced, served_order}
 use Rattle.el_model.proofs.Laws.Tests.{by_test}
+use Rattle.el_model.specs.BusEvent.{AtFace, AtProbe, Becomes, IsAbsent, IsBusEvent, IsLetGo, IsSent, LosesIt}
+use Rattle.el_model.specs.BusEvent.{LosesWhere, Nothing, Places, Sees, Serves, Start, Starts, StartsWhere, Takes}
+use Rattle.el_model.specs.BusEvent.{as_faced, faced_head, order_after}
+use Rattle.el_model.specs.Causes.{ComesWhere}
 use Rattle.el_model.specs.Conflicts.{conflicts, first_such, holder_of, is_write, retainer_of, stamp_in, told_winner}
 use Rattle.el_model.specs.Conflicts.{wins_over}
-use Rattle.el_model.specs.Deed.{Arms, Begins, Buffers, Commits, Continues, Deed, DoesWhere, Elides, LetsGo, Misses}
-use Rattle.el_model.specs.Deed.{Rests, RollsBack, Runs, Waits}
-use Rattle.el_model.specs.Deed.{outcome_of}
-use Rattle.el_model.specs.Deliver.{deliver_next, deliver_turn, loses_to_origin, losers_by, message_losers, nobody}
-use Rattle.el_model.specs.Deliver.{one_lost, taken}
-use Rattle.el_model.specs.Armed.{freed_by, freed_count, let_go}
-use Rattle.el_model.specs.Face.{LosesTo, Unmet, deferring_fate, face_losers, faced, fate_of, freed_if, met_losers}
-use Rattle.el_model.specs.Face.{met_losers_if}
-use Rattle.el_model.specs.Face.{told_fate, winner_in}
-use Rattle.el_model.specs.Next.{after, kind_turn, next, outcomes_from}
-use Rattle.el_model.specs.Order.{Alone, Behind as BehindOthers, InFront, Place, before_face, freed_at, losers_at}
-use Rattle.el_model.specs.Order.{order_raised}
+use Rattle.el_model.specs.InSection.{Commits, RollsBack, section_rule}
+use Rattle.el_model.specs.Armed.{freed_by, freed_count}
+use Rattle.el_model.specs.Face.{LosesTo, Unmet, deferring_fate, fate_of, freed_if, told_fate, winner_in}
+use Rattle.el_model.specs.Next.{after, next, outcomes_from}
+use Rattle.el_model.specs.Order.{Alone, Behind as BehindOthers, InFront, Place, before_face, freed_at, place_for}
 use Rattle.el_model.specs.Plain.{armed_count}
-use Rattle.el_model.specs.Order.{order_turn, place_for, placed}
-use Rattle.el_model.specs.Serve.{Blocks, Free, Obstacle, blocks_if, obstacle_to, other_head, serve_freed, serve_losers}
-use Rattle.el_model.specs.Serve.{serve_ordered, serve_past, serve_turn, served}
-use Rattle.el_model.specs.State.{Armed, Hart, ModelState, Section, armed_of, begin, count_up, hart_of, head_of}
-use Rattle.el_model.specs.State.{new_hart, numbers_of}
-use Rattle.el_model.specs.State.{ordered_of, ordered_on, raised_of, section_of}
+use Rattle.el_model.specs.Serve.{Blocks, Free, Obstacle, blocks_if, obstacle_to, other_head, serve_freed, served}
+use Rattle.el_model.specs.State.{Armed, Hart, ModelState, Section, Turn, armed_of, begin, count_up, hart_of, head_of}
+use Rattle.el_model.specs.State.{new_hart, numbers_of, ordered_of, ordered_on, section_of}
 use Rattle.elf_image.specs.Program.{Program}
-use Rattle.machine.specs.Recording.{AreAmong, AreFreedAmong, CanBeRecorded, OutcomesCanBeRecorded}
-use Rattle.mail.specs.Mailbox.{Marker, Message, Probe}
+use Rattle.machine.specs.Recording.{AreFreedAmong, CanBeRecorded, OutcomesCanBeRecorded}
 use Rattle.engine.proofs.Laws.ArmedCounts.{armed_sections_are_short}
 use Rattle.progress_laws.proofs.Laws.Delivering.{own_line}
 use Rattle.progress_laws.proofs.Laws.Facing.{least_passes}
@@ -112,66 +106,49 @@ fate_below state head g hart limit exists below =
     (deferring_fate state.config.mode state head hart) (λ wins. exists)
     (λ stays. deferring_below state.config.mode state head hart limit below)) (λ apart. tt)
 
--- who wins is a hart of the machine
-abbrev WinnersBelow : ℕ → Losers → Type 0
-WinnersBelow limit losers = (loser winner : ℕ) → beaten_by losers loser ≡ Some winner → winner < limit
+-- whom an event of the bus names as a winner is a hart of the machine
+module _ (state : ModelState) (by : ℕ) (bounded : Bounded state) (once : IsOneEach state.order) where
+  abbrev limit : ℕ
+  limit = length state.harts
 
-nobody_wins : (limit : ℕ) → WinnersBelow limit (losers_of (λ h. None))
-nobody_wins limit loser winner is = let none = named_by_map (λ h. None) loser winner is in absurd (cc)
+  head_exists : (start : Start) (head : Request) → StartsWhere state by start → faced_head state start ≡ Some head →
+      head.hart < limit
+  head_exists Nothing head where_it is = none_some is
+  head_exists (Places request InFront) head may is =
+      subst (λ r. r.hart < limit) (same_Some _ _ is) (raised_exists state by request bounded.sound may.raised)
+  head_exists (Places request BehindOthers) head may is = none_some is
+  head_exists (Places request Alone) head may is =
+      subst (λ r. r.hart < limit) (same_Some _ _ is) (raised_exists state by request bounded.sound may.raised)
+  head_exists (Serves request) head may is =
+      (below_kept limit).taken_out state.order request.hart bounded.exists head.hart head
+      (request_of_first_of (removed state.order request.hart) request.line head
+      (one_each_removed state.order request.hart once)
+      (sym (ap (λ order. first_of order request.line) (served_order state request)) ∙ is))
+  head_exists (Takes message others) head where_it is = none_some is
 
-face_winners : (state : ModelState) (head : Request) (limit : ℕ) → head.hart < limit → AreBelow limit state.order →
-    WinnersBelow limit (face_losers state head)
-unfolding face_losers
-face_winners state head limit exists below loser winner is =
-    subst (IsBelow limit) (named_by_map (λ h. winner_in (fate_of state head h (hart_of state h))) loser winner is)
-    (fate_below state head loser (hart_of state loser) limit exists below)
+  winner_exists : {start : Start} {h winner : ℕ} {stamp : Option Stamp} → StartsWhere state by start →
+      AreBelow limit (order_after state start) → LosesWhere state by start h winner stamp → winner < limit
+  winner_exists where_it below (AtFace start head h winner is apart fate) =
+      let faced = as_faced state by start head in
+      subst (λ found. IsBelow limit (winner_in found)) fate
+      (fate_below faced head h (hart_of faced h) limit (head_exists start head where_it is)
+      (subst (AreBelow limit) (sym (order_as_faced state by start head)) below))
+  winner_exists where_it below (AtProbe origin others request is loses) = below origin request is
 
--- nor does it change who asks that armed sections are let go before
-met_winners : (state : ModelState) (head : Request) (limit : ℕ) → head.hart < limit → AreBelow limit state.order →
-    WinnersBelow limit (met_losers state head)
-unfolding let_go
-met_winners state head limit exists below = face_winners (let_go state head) head limit exists below
+  lost_exists : (start : Start) (h : ℕ) {lost : Option ℕ} {hart : Hart} → StartsWhere state by start →
+      AreBelow limit (order_after state start) → Becomes state by start h lost hart → IsBelow limit lost
+  lost_exists start h where_it below (IsAbsent past) = tt
+  lost_exists start h where_it below (Starts inside) = tt
+  lost_exists start h where_it below (IsSent message lost hart sent now) = lost_exists start h where_it below now
+  lost_exists start h where_it below (IsLetGo head hart frees now) = tt
+  lost_exists start h where_it below (Sees head lost hart defers now) = lost_exists start h where_it below now
+  lost_exists start h where_it below (LosesIt winner stamp hart loses now) = winner_exists where_it below loses
 
-order_winners : (state : ModelState) (request : Request) (place : Place) (limit : ℕ) → request.hart < limit →
-    AreBelow limit (placed state request place).order → WinnersBelow limit (losers_at state request place)
-unfolding placed faced let_go
-order_winners state request InFront limit exists below =
-    met_winners (before_face state request InFront) request limit exists below
-order_winners state request BehindOthers limit exists below = nobody_wins limit
-order_winners state request Alone limit exists below =
-    met_winners (before_face state request Alone) request limit exists below
-
-served_winners : (state : ModelState) (line limit : ℕ) (head : Option Request) → IsOneEach state.order →
-    AreBelow limit state.order → head_of state line ≡ head → WinnersBelow limit (met_losers_if state head)
-served_winners state line limit None once below is = nobody_wins limit
-served_winners state line limit (Some head) once below is =
-    met_winners state head limit (below head.hart head (request_of_first_of state.order line head once is)) below
-
-serve_winners : (state : ModelState) (request : Request) (limit : ℕ) → IsOneEach state.order →
-    AreBelow limit state.order → WinnersBelow limit (serve_losers state request)
-unfolding served
-serve_winners state request limit once below =
-    served_winners (served state request) request.line limit (head_of (served state request) request.line)
-    (one_each_removed state.order request.hart once) ((below_kept limit).taken_out state.order request.hart below) refl
-
-origin_wins : (state : ModelState) (h origin limit : ℕ) (request : Option Request) → AreBelow limit state.order →
-    ordered_of state origin ≡ request → loses_to_origin state h request ≡ true → WinnersBelow limit (one_lost h origin)
-origin_wins state h origin limit None below is loses = absurd (cc)
-origin_wins state h origin limit (Some request) below is loses = λ loser winner named.
-    by loser winner (loser == h) (named_by_map (λ g. if g == h then Some origin else None) loser winner named)
-  where
-    by : (loser winner : ℕ) (own : Bool) → (if own then Some origin else None) ≡ Some winner → winner < limit
-    by loser winner true named = subst (λ w. w < limit) (same_Some _ _ named) (below origin request is)
-    by loser winner false named = absurd (cc)
-
-message_winners : (state : ModelState) (h : ℕ) (message : Message) (limit : ℕ) → AreBelow limit state.order →
-    WinnersBelow limit (losers_by state h message)
-message_winners state h (Marker sender) limit below = nobody_wins limit
-message_winners state h (Probe origin) limit below =
-    by_test (WinnersBelow limit) (has (hart_of state h).told origin) nobody _ (λ told. nobody_wins limit)
-    (λ untold.
-    by_test (WinnersBelow limit) (loses_to_origin state h (ordered_of state origin)) (one_lost h origin) nobody
-    (λ loses. origin_wins state h origin limit (ordered_of state origin) below refl loses) (λ stays. nobody_wins limit))
+  named_exists : {turn : Turn} → IsBusEvent state by turn → AreBelow limit turn.state.order → (loser winner : ℕ) →
+      winner_over turn.outcome loser ≡ Some winner → winner < limit
+  named_exists done below loser winner names =
+      subst (IsBelow limit) (named_by_map done.lost loser winner (sym (done.names loser) ∙ names))
+      (lost_exists done.start loser done.where_it (subst (AreBelow limit) done.order below) (done.becomes loser))
 
 -- what is in the way of a request is a hart of the machine
 abbrev BlocksBelow : ℕ → Obstacle → Type 0
@@ -251,88 +228,48 @@ serve_frees state request = by (head_of (served state request) request.line)
     by None = nobody_freed (length state.harts)
     by (Some head) = as_many_freed state (served state request) head (keeps_served state request).count
 
--- losers that exist, to winners that do
-among : (limit : ℕ) (losers : Losers) → ((loser winner : ℕ) → beaten_by losers loser ≡ Some winner → loser < limit) →
-    WinnersBelow limit losers → AreAmong limit losers
-among limit losers lost wins = λ loser winner named. (lost loser winner named, wins loser winner named)
+-- a section that commits is not at its longest
+commits_short : (state : ModelState) (h : ℕ) (section : Section) → section_rule state h section ≡ Commits →
+    (section.count == state.config.long) ≡ false
+commits_short state h section =
+    by_test (λ rule. rule ≡ Commits → (section.count == state.config.long) ≡ false)
+    (section.count == state.config.long) (RollsBack Long) _ (λ long is. absurd (cc)) (λ short is. short)
 
--- one event, by its kind, where each request is of a hart of the machine, before it and after it, no section is longer
--- than it may be, and the losers exist
+-- each outcome, by where it comes: each request is of a hart of the machine, no section is longer than it may be, and
+-- the losers that are named, and those to whom they lost, exist
 module _ (state : ModelState) (few : length state.harts ≤ 8) (bounded : Bounded state) (once : IsOneEach state.order)
     (is_short : (h : ℕ) (section : Section) → section_of state h ≡ Some section →
     IsSectionShort state.config.long section)
     (armed_short : (h : ℕ) (armed : Armed) → armed_of state h ≡ Some armed → IsShortArmed state.config.long armed)
   where
-    abbrev Recorded : Outcome → Type 0
-    Recorded outcome = CanBeRecorded (length state.harts) state.config.long outcome
-
-    abbrev LosersExist : Outcome → Type 0
-    LosersExist outcome = (loser winner : ℕ) → winner_over outcome loser ≡ Some winner → loser < length state.harts
-
-    deed_recorded : (h : ℕ) (deed : Deed) → DoesWhere state h deed → Recorded (outcome_of deed)
-    deed_recorded h Rests does = tt
-    deed_recorded h Waits does = tt
-    deed_recorded h (Misses line need) does = tt
-    deed_recorded h (Runs touch) does = tt
-    deed_recorded h (Begins swap) does = tt
-    deed_recorded h (Buffers section touch) does = tt
-    deed_recorded h (Commits section) does =
-        let shorter = does.goes_on.is_short in
-        let counts = is_short h section shorter.inside.live in
-        (omega arith, grind (arith, nat_tests, shorter.short, counts.no_more))
-    deed_recorded h (RollsBack section cause) does = tt
-    deed_recorded h (Arms word) does = tt
-    deed_recorded h (Elides armed swap) does = tt
-    deed_recorded h (Continues armed) does = tt
-    deed_recorded h (LetsGo armed) does =
-        let counts = armed_short h armed does.is_armed.armed_is in (counts.some, counts.few)
-
-    order_recorded : (h : ℕ) (raised : Option Request) → raised_of state h ≡ raised →
-        AreBelow (length state.harts) (order_raised state raised).state.order →
-        LosersExist (order_raised state raised).outcome → Recorded (order_raised state raised).outcome
-    order_recorded h None is below lost = tt
-    order_recorded h (Some request) is below lost =
-        let exists = raised_exists state h request bounded.sound is in
-        let place = place_for state request in (
-          among _ (losers_at state request place) lost (order_winners state request place _ exists below),
-          order_frees state request place,
-        )
-
-    past_recorded : (request : Request) (obstacle : Obstacle) → BlocksBelow (length state.harts) obstacle →
-        LosersExist (serve_past state request obstacle).outcome → Recorded (serve_past state request obstacle).outcome
-    past_recorded request Free exists lost = (
-      among _ (serve_losers state request) lost (serve_winners state request _ once bounded.exists),
-      serve_frees state request,
+    recorded : (event : Event) (outcome : Outcome) → ComesWhere state event outcome →
+        ((loser winner : ℕ) → winner_over outcome loser ≡ Some winner →
+        (loser < length state.harts) × (winner < length state.harts)) →
+        CanBeRecorded (length state.harts) state.config.long outcome
+    recorded event (Committed count) (section, is, goes) named =
+        let counts = is_short event.hart.number section goes.inside in
+        let short = commits_short state event.hart.number section goes.rule_is in
+        (omega (arith, is), grind (arith, nat_tests, is, short, counts.no_more))
+    recorded event (LetGo count) (armed, is, goes) named =
+        let counts = armed_short event.hart.number armed goes.is_armed in
+        (omega (arith, is, counts.some), omega (arith, is, counts.few))
+    recorded event (Ordered losers freed) comes named = (
+      named,
+      subst (AreFreedAmong (length state.harts)) (sym comes.freed_are)
+          (order_frees state comes.request (place_for state comes.request)),
     )
-    past_recorded request (Blocks why by) exists lost =
-        rw (hart_id-number by (omega (arith, exists, few))) exists
-
-    serve_recorded : (ordered : Option Request) → LosersExist (serve_ordered state ordered).outcome →
-        Recorded (serve_ordered state ordered).outcome
-    serve_recorded None lost = tt
-    serve_recorded (Some request) lost =
-        past_recorded request (obstacle_to state request) (obstacle_below state request once bounded.exists) lost
-
-    mail_recorded : (h : ℕ) (mail : List Message) → LosersExist (deliver_next state h mail).outcome →
-        Recorded (deliver_next state h mail).outcome
-    mail_recorded h [] lost = tt
-    mail_recorded h (message ∷ others) lost =
-        among _ (message_losers state h message others) lost
-        (message_winners (taken state h others) h message _ bounded.exists)
-
-    kind_recorded : (h : ℕ) (kind : Kind) → AreBelow (length state.harts) (kind_turn state h kind).state.order →
-        LosersExist (kind_turn state h kind).outcome → Recorded (kind_turn state h kind).outcome
-    unfolding order_turn serve_turn deliver_turn
-    kind_recorded h kinds.Step below lost =
-        let step = step_deed state h in rw step.turn_is (deed_recorded h step.deed step.where_it)
-    kind_recorded h kinds.Order below lost = order_recorded h (raised_of state h) refl below lost
-    kind_recorded h kinds.Serve below lost = serve_recorded (ordered_of state h) lost
-    kind_recorded h kinds.Deliver below lost = mail_recorded h (hart_of state h).mail lost
-
-    next_recorded : (event : Event) → AreBelow (length state.harts) (next state event).state.order →
-        LosersExist (next state event).outcome → Recorded (next state event).outcome
-    unfolding next
-    next_recorded event below lost = kind_recorded event.hart.number event.kind below lost
+    recorded event (Served losers freed) comes named = (
+      named,
+      subst (AreFreedAmong (length state.harts)) (sym comes.freed_are) (serve_frees state comes.request),
+    )
+    recorded event (Blocked why by) comes named =
+        let exists =
+        subst (BlocksBelow (length state.harts)) comes.obstacle
+        (obstacle_below state comes.request once bounded.exists) in
+        subst (λ n. n < length state.harts)
+        (sym (ap (λ hart. hart.number) comes.by_is ∙ hart_id-number comes.hart (omega (arith, exists, few)))) exists
+    recorded event (Delivered losers) comes named = named
+    recorded event _ comes named = tt
 
 -- so in each state that can be reached
 module _ (program : Program) (config : Config) (same : program.harts ≡ config.harts) (range : IsInRange config) where
@@ -362,12 +299,17 @@ module _ (program : Program) (config : Config) (same : program.harts ≡ config.
       subst Bounded (state_after-append (begin program config) made (event ∷ [])) (bounds (made ++ event ∷ [])) in
       subst (λ count. AreBelow count (next state event).state.order) (next_count state event) bounded.exists
 
-  loser_exists : (made : List Event) (event : Event) (loser winner : ℕ) →
+  -- whoever lost had a live section
+  names_exist : (made : List Event) (event : Event) (loser winner : ℕ) →
       winner_over (next (after program config made) event).outcome loser ≡ Some winner →
-      loser < length (after program config made).harts
-  loser_exists made event loser winner named =
-      let lost = only_live_sections_lose program config made event loser winner same range named in
-      live_exists (after program config made) loser lost.section lost.live
+      let harts = length (after program config made).harts in (loser < harts) × (winner < harts)
+  names_exist made event loser winner named =
+      let state = after program config made in
+      let lost = only_live_sections_lose program config made event loser winner same range named in (
+        live_exists state loser lost.section lost.live,
+        named_exists state event.hart.number (bounds made) (one_ordered_request_each program config made)
+            (bus_events_are_told_once state event lost.of_bus) (next_below made event) loser winner named,
+      )
 
   armed_short : (made : List Event) (h : ℕ) (armed : Armed) → armed_of (after program config made) h ≡ Some armed →
       IsShortArmed (after program config made).config.long armed
@@ -386,11 +328,11 @@ module _ (program : Program) (config : Config) (same : program.harts ≡ config.
   one_recorded made event =
       let state = after program config made in
       let few : length state.harts ≤ 8 = rw (as_configured made) (harts_in_range config range) in
-      subst (λ c. CanBeRecorded c.harts c.long (next state event).outcome) (config_stays made)
-      (subst (λ count. CanBeRecorded count state.config.long (next state event).outcome) (bounds made).count
-      (next_recorded state few (bounds made) (one_ordered_request_each program config made) (sections_short made)
-      (armed_short made) event
-      (next_below made event) (loser_exists made event)))
+      let outcome = (next state event).outcome in
+      subst (λ c. CanBeRecorded c.harts c.long outcome) (config_stays made)
+      (subst (λ count. CanBeRecorded count state.config.long outcome) (bounds made).count
+      (recorded state few (bounds made) (one_ordered_request_each program config made) (sections_short made)
+      (armed_short made) event outcome ((by_their_rules state event outcome).0 refl) (names_exist made event)))
 
   from_here : (made events : List Event) → All Recordable (outcomes_from (after program config made) events)
   from_here made [] = All-nil Recordable

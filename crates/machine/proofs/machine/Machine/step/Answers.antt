@@ -45,9 +45,9 @@ pub returns-clause-least_never_loses : goal.returns-clause-least_never_loses
 returns-clause-least_never_loses c =
     (kept_by _ _ _ _ _ _ _ c.self.invariant c.self.view_is (returns-clause-goes_on c) (returns-clause-outcome c)).least
 
-pub returns-clause-head_of_least_is_served : goal.returns-clause-head_of_least_is_served
-returns-clause-head_of_least_is_served c =
-    (kept_by _ _ _ _ _ _ _ c.self.invariant c.self.view_is (returns-clause-goes_on c) (returns-clause-outcome c)).head
+pub returns-clause-line_of_least_moves_on : goal.returns-clause-line_of_least_moves_on
+returns-clause-line_of_least_moves_on c =
+    (kept_by _ _ _ _ _ _ _ c.self.invariant c.self.view_is (returns-clause-goes_on c) (returns-clause-outcome c)).line
 
 pub returns-clause-stamps_stay : goal.returns-clause-stamps_stay
 returns-clause-stamps_stay c =

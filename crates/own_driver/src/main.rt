@@ -71,12 +71,7 @@ fn own_event(harts: u8, place: u32) -> Event
 {
     let turn = place / (4 * TURN);
     let number = harts - 1 - (turn % u32::from(harts)) as u8;
-    let kind = match place % 4 {
-        0 => Kind::Step,
-        1 => Kind::Order,
-        2 => Kind::Serve,
-        _ => Kind::Deliver,
-    };
+    let kind = Kind::with_number((place % 4) as u8).unwrap_or(Kind::Deliver);
     Event {
         kind,
         hart: HartId { number },

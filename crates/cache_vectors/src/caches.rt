@@ -2,6 +2,7 @@
 
 ghost use Rattle.cache_sets.specs.Slotted.{IsLent};
 
+use crate::asserts::{same, same_at};
 use bitflags::Flags;
 use cache_sets::*;
 use el_base::{Config, LineAddr, Need, line_of};
@@ -151,10 +152,11 @@ fn each_letter_meets_each_request(rt: HostRuntime) -> Result<(), Fail> {
             let mut cache = cache(rt.alloc(), 1)?;
             cache.fill(3, letter);
             cache.meet(3, need);
-            assert_eq!(rt;
+            same_at(
+                &rt,
+                (letter, need),
                 (cache.sets.letter(line(3)), cache.out()),
                 (after, u16::from(after != Letter::I)),
-                "{letter:?} {need:?}"
             );
         }
     }
@@ -170,10 +172,11 @@ fn each_letter_meets_each_commit(rt: HostRuntime) -> Result<(), Fail> {
             cache.set_bit(3, need);
             let marked = cache.sets.marked();
             cache.end(true);
-            assert_eq!(rt;
+            same_at(
+                &rt,
+                (letter, need),
                 (marked, cache.sets.marked(), cache.sets.letter(line(3))),
                 (true, false, after),
-                "{letter:?} {need:?}"
             );
         }
     }
@@ -264,15 +267,10 @@ fn the_last_line_without_bits_leaves(rt: HostRuntime) -> Result<(), Fail> {
     for turn in TURNS {
         let victim = cache.sets.victim(line(turn.comes)).map(|line| line.number);
         let gone = cache.fill(turn.comes, Letter::M).map(|gone| gone.0);
-        assert_eq!(rt;
-            (victim, gone),
-            (turn.leaves, turn.leaves),
-            "{}",
-            turn.comes
-        );
+        same_at(&rt, turn.comes, (victim, gone), (turn.leaves, turn.leaves));
         cache.does(turn.then);
     }
-    assert_eq!(rt; cache.out(), 2);
+    same(&rt, cache.out(), 2);
     Ok(())
 }
 
@@ -284,22 +282,23 @@ fn a_set_full_of_bits_has_no_room(rt: HostRuntime) -> Result<(), Fail> {
     cache.set_bit(5, Need::Read);
     let of_read = cache.sets.write_bits();
     cache.set_bit(8, Need::Write);
-    assert_eq!(rt; (of_read, cache.sets.write_bits()), (0, 1));
+    same(&rt, (of_read, cache.sets.write_bits()), (0, 1));
     for (number, room, bits) in [
         (5, true, Bits::READ),
         (8, true, Bits::WRITE),
         (9, false, Bits::empty()),
     ] {
         let line = line(number);
-        assert_eq!(rt;
+        same_at(
+            &rt,
+            number,
             (cache.sets.room(line), cache.sets.bits(line)),
             (room, bits),
-            "{number}"
         );
     }
     let victim = cache.sets.victim(line(9));
     cache.end(false);
-    assert_eq!(rt; (victim, cache.sets.room(line(9))), (None, true));
+    same(&rt, (victim, cache.sets.room(line(9))), (None, true));
     Ok(())
 }
 
@@ -308,19 +307,20 @@ fn what_is_written_is_read_from_that_line_alone(rt: HostRuntime) -> Result<(), F
     let mut cache = cache(rt.alloc(), 2)?;
     // lines 2 and 4 are in one set, line 3 in the other
     for number in [2, 3, 4] {
-        assert_eq!(rt; cache.fill(number, Letter::M), None);
+        same(&rt, cache.fill(number, Letter::M), None);
     }
     cache.write(2, 0, 0x55);
     cache.write(2, 63, 0xaa);
     for (number, first, middle, last) in [(2, 0x55, 2, 0xaa), (3, 3, 3, 3), (4, 4, 4, 4)] {
         for (at, byte) in [(0, first), (31, middle), (63, last)] {
-            assert_eq!(rt; cache.read(number, at), Some(byte), "{number} {at}");
+            same_at(&rt, (number, at), cache.read(number, at), Some(byte));
         }
     }
     let gone = cache.fill(6, Letter::E);
-    assert_eq!(rt;
+    same(
+        &rt,
         (gone, cache.read(2, 0), cache.out()),
-        (Some((2, Letter::M, 0x55, 0xaa)), None, 3)
+        (Some((2, Letter::M, 0x55, 0xaa)), None, 3),
     );
     Ok(())
 }
@@ -407,6 +407,6 @@ fn two_caches_have_a_slot_each(rt: HostRuntime) -> Result<(), Fail> {
         pair.fill_second(7, 0x66),
     ];
     let wanted = [None, None, Some(0x11), Some(0x22), Some(0x33), Some(0x44)];
-    assert_eq!(rt; gone, wanted);
+    same(&rt, gone, wanted);
     Ok(())
 }

@@ -4,6 +4,7 @@ ghost use Rattle.std.specs.Prelude.{◌≡◌, ◌<◌, ◌-◌, IfOk, IsSome, N
 ghost use Rattle.rv_alu.specs.declared.view.HartStatus.TheVariants.{Running};
 ghost use Rattle.write_hold.specs.Slotted.{IsLent};
 
+use crate::asserts::{same, same_at};
 use el_base::{Cause, Config, Mode};
 use hart_state::*;
 use line_pool::Pool;
@@ -117,7 +118,7 @@ fn the_fourth_loss_in_a_row_takes_the_lock_where_attempts_have_no_stamps(
             lose(&mut hart, mode),
             lose(&mut hart, mode),
         ];
-        assert_eq!(rt; found, elides, "{mode:?}");
+        same_at(&rt, mode, found, elides);
     }
     Ok(())
 }
@@ -169,16 +170,17 @@ fn a_rollback_takes_the_next_lock_and_blames_the_section_alone(
         let left = *hart.state.shown();
         let elides = hart.state.may_elide(Mode::Sle);
         run_candidate(&mut hart, THERE, WORD);
-        assert_eq!(rt;
+        same_at(
+            &rt,
+            cause,
             (
                 found,
                 committed,
                 left,
                 elides,
-                hart.state.may_elide(Mode::Sle)
+                hart.state.may_elide(Mode::Sle),
             ),
             (7, view(HERE), view(HERE), false, trusted),
-            "{cause:?}"
         );
     }
     Ok(())
@@ -205,7 +207,7 @@ fn a_watch_is_settled_by_what_comes_after_it(rt: HostRuntime) -> Result<(), Fail
         roll_back(&mut hart, FOUND, Cause::Long);
         run_candidate(&mut hart, THERE, WORD);
         let elides = (elides, hart.state.may_elide(Mode::Tlr));
-        assert_eq!(rt; elides, (trusted, still), "{action:?}");
+        same_at(&rt, action, elides, (trusted, still));
     }
     Ok(())
 }
@@ -222,11 +224,7 @@ fn a_candidate_is_watched_where_no_watch_stood(rt: HostRuntime) -> Result<(), Fa
                 .has_run(&Config::usual(), 0x10020, &store(OTHER, 9), None, false);
             hart.state
                 .has_run(&Config::usual(), 0x10024, &store(WORD, 9), None, false);
-            assert_eq!(rt;
-                hart.state.may_elide(Mode::Sle),
-                trusted,
-                "{second:x} {pc:x}"
-            );
+            same_at(&rt, (second, pc), hart.state.may_elide(Mode::Sle), trusted);
         }
     }
     Ok(())
@@ -259,7 +257,7 @@ fn a_candidate_ends_the_fallback_where_locks_are_elided(rt: HostRuntime) -> Resu
                 run_there(&mut hart, &config, &action, Some(swap));
             }
         }
-        assert_eq!(rt; hart.state.may_elide(Mode::Sle), ends, "{mode:?} {new:?}");
+        same_at(&rt, (mode, new), hart.state.may_elide(Mode::Sle), ends);
     }
     Ok(())
 }
@@ -301,9 +299,10 @@ fn an_acquire_by_an_sc_is_watched_from_the_last_lr(rt: HostRuntime) -> Result<()
         }
         let before = hart.state.last_lr();
         run_conditional(&mut hart, THERE);
-        assert_eq!(rt;
+        same(
+            &rt,
             (before, trust(&hart), hart.state.last_lr()),
-            (reserved, trusted, reserved)
+            (reserved, trusted, reserved),
         );
     }
     Ok(())
@@ -321,9 +320,10 @@ fn an_lr_that_is_let_go_is_the_last_one(rt: HostRuntime) -> Result<(), Fail> {
         hart.state.shown().regs.get(FOUND),
     );
     run_conditional(&mut hart, THERE);
-    assert_eq!(rt;
+    same(
+        &rt,
         (before, after, pc, found, trust(&hart)),
-        (None, Some(HERE), 0x10004, 7, (1, 2))
+        (None, Some(HERE), 0x10004, 7, (1, 2)),
     );
     Ok(())
 }
@@ -335,14 +335,15 @@ fn a_section_that_an_sc_begins_blames_its_lr(rt: HostRuntime) -> Result<(), Fail
     hart.state.begin_armed(8, FOUND);
     let found = hart.state.shown().regs.get(FOUND);
     leave(&mut hart, Cause::Long);
-    assert_eq!(rt;
+    same(
+        &rt,
         (
             found,
             *hart.state.shown(),
             hart.state.last_lr(),
-            trust(&hart)
+            trust(&hart),
         ),
-        (0, view(HERE), None, (1, 2))
+        (0, view(HERE), None, (1, 2)),
     );
     Ok(())
 }

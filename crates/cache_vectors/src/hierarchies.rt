@@ -11,6 +11,7 @@ ghost use Rattle.coherence.specs.Served.{IsCoherent, TellsOf, caches_of, shown_c
 ghost use Rattle.el_base.specs.Line.{line_number};
 ghost use Rattle.moesi.specs.Letters.{may_write};
 
+use crate::asserts::{same, same_at};
 use cache_sets::{Letter, Sets};
 use coherence::*;
 use el_base::{Config, HartId, LineAddr, Mode, Need, line_of};
@@ -223,7 +224,7 @@ fn stores(rt: &impl Abort, memory: &mut Memory, address: u32, answer: Option<u8>
     ensures { IsCoherent (shown_copies memory.new.pool memory.new.hierarchy) }
 {
     let stored = try_store(memory, ZERO, address, 0x11);
-    assert_eq!(rt; stored, answer, "{address:#x}");
+    same_at(rt, address, stored, answer);
 }
 
 /// A bit of a line is set, or it is not, as this says.
@@ -239,7 +240,7 @@ fn marks_line(
     ensures { IsCoherent (shown_copies memory.new.pool memory.new.hierarchy) }
 {
     let marked = mark(memory, hart, line, need);
-    assert_eq!(rt; marked, sets, "{hart:?} {line:?} {need:?}");
+    same_at(rt, (hart, line, need), marked, sets);
 }
 
 #[test]
@@ -258,7 +259,7 @@ fn letters_follow_requests_of_two_harts(rt: HostRuntime) -> Result<(), Fail> {
     ] {
         serves(&rt, &mut memory, hart, line, need);
         let seen = (letters(&memory, line), byte(&memory, FIRST * 64));
-        assert_eq!(rt; seen, (wanted, Some(0x7f)), "{hart:?} {need:?}");
+        same_at(&rt, (hart, need), seen, (wanted, Some(0x7f)));
     }
     Ok(())
 }
@@ -281,9 +282,9 @@ fn a_line_leaves_for_another(rt: HostRuntime) -> Result<(), Fail> {
     // the only way of hart 0 is for the other line then, which both harts have
     serves(&rt, &mut memory, ZERO, next, Need::Read);
     let seen = (letter(&memory, ZERO, here), letters(&memory, next));
-    assert_eq!(rt; seen, (Letter::I, (Letter::S, Letter::S)));
+    same(&rt, seen, (Letter::I, (Letter::S, Letter::S)));
     for &(address, wanted) in BYTES {
-        assert_eq!(rt; byte(&memory, address), wanted, "{address:#x}");
+        same_at(&rt, address, byte(&memory, address), wanted);
     }
     Ok(())
 }
@@ -330,14 +331,15 @@ fn a_store_reaches_main_memory_as_its_line_leaves(rt: HostRuntime) -> Result<(),
     // the only way of hart 0 is for the other line then
     serves(&rt, &mut memory, ZERO, next, Need::Read);
     let (unwritten, in_memory) = ([old, before, behind], [old, behind]);
-    assert_eq!(rt;
+    same(
+        &rt,
         [shared, alone, written, look(&memory, address)],
         [
             (Letter::S, unwritten, in_memory),
             (Letter::E, unwritten, in_memory),
             (Letter::M, [new, before, behind], in_memory),
             (Letter::I, [new, before, behind], [new, behind]),
-        ]
+        ],
     );
     Ok(())
 }
@@ -358,21 +360,24 @@ fn bits_are_set_and_cleared_in_one_cache(rt: HostRuntime) -> Result<(), Fail> {
     // a line with a bit does not leave for another
     let rooms = (room(&memory, ZERO, here), room(&memory, ZERO, next));
     clear(&mut memory, ZERO);
-    assert_eq!(rt;
+    same(
+        &rt,
         (read, written, rooms),
-        (((true, 0), (true, 1)), (true, 1), (true, false))
+        (((true, 0), (true, 1)), (true, 1), (true, false)),
     );
-    assert_eq!(rt;
+    same(
+        &rt,
         (
             room(&memory, ZERO, next),
             marks(&memory, ZERO),
-            marks(&memory, ONE)
+            marks(&memory, ONE),
         ),
-        (true, (false, 0), (true, 1))
+        (true, (false, 0), (true, 1)),
     );
-    assert_eq!(rt;
+    same(
+        &rt,
         (letters(&memory, here), byte(&memory, FIRST * 64)),
-        ((Letter::S, Letter::S), Some(0x7f))
+        ((Letter::S, Letter::S), Some(0x7f)),
     );
     Ok(())
 }

@@ -1,5 +1,6 @@
 //! A few holds, worked by hand. The lines under them have at each place the number of the place.
 
+use crate::asserts::{same, same_at};
 use el_base::{Config, line_of};
 use line_pool::Pool;
 use std::alloc::Global;
@@ -107,13 +108,13 @@ type Word = (u8, u8, u32);
 /// The bytes are put into a line, or there is too little room, as this says.
 fn puts(rt: &impl Abort, hold: &mut Lent, number: u8, offset: u8, bytes: &[u8], answer: Put) {
     let put = hold.put(number, offset, bytes);
-    assert_eq!(rt; put, answer, "{number} {offset}");
+    same_at(rt, (number, offset), put, answer);
 }
 
 /// These words are read.
 fn reads(rt: &impl Abort, hold: &Lent, words: &[Word]) {
     for &(number, offset, word) in words {
-        assert_eq!(rt; hold.read(number, offset), word, "{number} {offset}");
+        same_at(rt, (number, offset), hold.read(number, offset), word);
     }
 }
 
@@ -123,13 +124,13 @@ fn holds(rt: &impl Abort, hold: &Lent, len: usize, first: Option<u8>) {
         Some(number) => Some(line(number)),
         None => None,
     };
-    assert_eq!(rt; (hold.hold.len(), hold.hold.first()), (len, wanted));
+    same(rt, (hold.hold.len(), hold.hold.first()), (len, wanted));
 }
 
 /// A line is drained, or it is not held, as this says.
 fn drains(rt: &impl Abort, hold: &mut Lent, number: u8, is_held: bool) {
     let drained = hold.drained(number).is_some();
-    assert_eq!(rt; drained, is_held, "{number}");
+    same_at(rt, number, drained, is_held);
 }
 
 /// Words over bytes 4 and 5 of line 3.
@@ -240,7 +241,7 @@ fn a_new_line_is_refused_at_the_limit_and_an_old_one_is_not(rt: HostRuntime) -> 
     let mut hold = hold(rt.alloc(), 2)?;
     for &(number, put, held) in AT_THE_LIMIT {
         let answer = hold.put(number, number, &[0xff]);
-        assert_eq!(rt; (answer, hold.hold.len()), (put, held), "{number}");
+        same_at(&rt, number, (answer, hold.hold.len()), (put, held));
     }
     assert!(rt; !hold.hold.has(line(3)));
     reads(&rt, &hold, &[(3, 3, 0x0605_0403)]);
@@ -265,7 +266,7 @@ fn a_drain_merges_one_line_and_removes_it(rt: HostRuntime) -> Result<(), Fail> {
         puts(&rt, &mut hold, number, offset, &[byte], Put::Held);
     }
     let drained = at_places(hold.drained(5));
-    assert_eq!(rt; drained, Some([0x70, 1, 31, 61, 0x90, 0x80]));
+    same(&rt, drained, Some([0x70, 1, 31, 61, 0x90, 0x80]));
     assert!(rt; !hold.hold.has(line(5)));
     drains(&rt, &mut hold, 5, false);
     reads(&rt, &hold, &[(5, 60, 0x3f3e_3d3c), (6, 0, 0x0302_1000)]);
@@ -286,7 +287,7 @@ fn a_hold_forgets_all_that_it_holds_and_goes_on(rt: HostRuntime) -> Result<(), F
     hold.forget();
     holds(&rt, &hold, 0, None);
     let (has_one, has_two) = (hold.hold.has(line(1)), hold.hold.has(line(2)));
-    assert_eq!(rt; (has_first, has_one, has_two), (true, false, false));
+    same(&rt, (has_first, has_one, has_two), (true, false, false));
     reads(&rt, &hold, &[(1, 0, 0x0302_0100), (2, 0, 0x0302_0100)]);
     for (number, put) in [(3, Put::Held), (4, Put::Held), (1, Put::TooMany(2))] {
         puts(&rt, &mut hold, number, 0, &[0xee], put);
@@ -308,7 +309,7 @@ fn sixteen_lines_are_held_and_a_seventeenth_is_not(rt: HostRuntime) -> Result<()
     for number in 0..16 {
         drains(&rt, &mut hold, number, true);
     }
-    assert_eq!(rt; (out, hold.out()), (16, 0));
+    same(&rt, (out, hold.out()), (16, 0));
     puts(&rt, &mut hold, 16, 0, &[1], Put::Held);
     Ok(())
 }
@@ -375,14 +376,15 @@ impl Pair {
 fn two_holds_have_a_slot_each(rt: HostRuntime) -> Result<(), Fail> {
     let mut pair = Pair::make(rt.alloc())?;
     let (first, second) = (pair.put_first(4, 0x11), pair.put_second(4, 0x22));
-    assert_eq!(rt; (first, second), (true, true));
+    same(&rt, (first, second), (true, true));
     let (first, second) = (pair.put_first(5, 0x33), pair.put_second(6, 0x44));
-    assert_eq!(rt; (first, second), (false, false));
+    same(&rt, (first, second), (false, false));
     let words = pair.words(4);
     let put = pair.put_first(4, 0x55);
-    assert_eq!(rt;
+    same(
+        &rt,
         (words, put, pair.words(4)),
-        ((0x11, 0x22), true, (0x55, 0x22))
+        ((0x11, 0x22), true, (0x55, 0x22)),
     );
     Ok(())
 }

@@ -11,6 +11,7 @@ ghost use Rattle.section_ctl.specs.Lent.{LendsBoth};
 ghost use Rattle.section_view.specs.KeptRun.{HoldsMarked};
 ghost use Rattle.write_hold.specs.Slotted as holds;
 
+use crate::asserts::{same, same_at};
 use bitflags::Flags;
 use cache_sets::{Bits, Letter, Sets};
 use el_base::{Config, LineAddr, Need, line_of};
@@ -334,7 +335,7 @@ fn wrote(hart: &Hart, address: u32) -> bool {
 fn loads(rt: &impl Abort, hart: &mut Hart, words: &[(u32, u32)]) -> Result<(), Fail> {
     for &(address, word) in words {
         let loaded = load(hart, address)?;
-        assert_eq!(rt; loaded, word, "{address:#x}");
+        same_at(rt, address, loaded, word);
     }
     Ok(())
 }
@@ -345,19 +346,22 @@ fn an_acquire_and_a_release_alone_leave_memory_as_it_was(rt: HostRuntime) -> Res
         let mut hart = begun(rt.alloc(), None, &[(LOCK, Need::Read)])?;
         let before = bytes_at(&hart, LOCK);
         let written = (wrote(&hart, LOCK + 60), wrote(&hart, LOCK + 64));
-        assert_eq!(rt;
+        same(
+            &rt,
             (pcs(&hart), word_in(&hart, X5), written),
-            ((0x10004, 0x10000), FREE, (true, false))
+            ((0x10004, 0x10000), FREE, (true, false)),
         );
         commit(&mut hart, code)?;
-        assert_eq!(rt;
+        same(
+            &rt,
             (pcs(&hart), word_in(&hart, X7), hart.section.live()),
-            ((0x10008, 0x10008), found, None)
+            ((0x10008, 0x10008), found, None),
         );
         let letter = hart.sets.letter(line_of(LOCK));
-        assert_eq!(rt;
+        same(
+            &rt,
             (bytes_at(&hart, LOCK), letter, hart.sets.marked()),
-            (before, Letter::E, false)
+            (before, Letter::E, false),
         );
     }
     Ok(())
@@ -374,7 +378,7 @@ fn a_load_sees_what_was_stored_over_the_bytes_under_it(rt: HostRuntime) -> Resul
         &mut hart,
         &[(0x10084, 0xbbaa_0504), (0x10088, 0x0b0a_0908)],
     )?;
-    assert_eq!(rt; count(&hart), Some(6));
+    same(&rt, count(&hart), Some(6));
     Ok(())
 }
 
@@ -382,9 +386,10 @@ fn a_load_sees_what_was_stored_over_the_bytes_under_it(rt: HostRuntime) -> Resul
 fn an_instruction_of_a_word_runs_on_the_live_view(rt: HostRuntime) -> Result<(), Fail> {
     let mut hart = begun(rt.alloc(), None, &[(LOCK, Need::Read)])?;
     compute(&mut hart, ADD_ONE)?;
-    assert_eq!(rt;
+    same(
+        &rt,
         (word_in(&hart, X6), pcs(&hart), count(&hart)),
-        (FREE + 1, (0x10008, 0x10000), Some(2))
+        (FREE + 1, (0x10008, 0x10000), Some(2)),
     );
     Ok(())
 }
@@ -407,18 +412,20 @@ fn the_last_of_two_stores_to_a_word_is_committed(rt: HostRuntime) -> Result<(), 
     let before = middle(&hart, 0x10080);
     commit(&mut hart, STORE_WORD)?;
     let after = middle(&hart, 0x10080);
-    assert_eq!(rt;
+    same(
+        &rt,
         (before, after),
         (
             Some([7, 8, 9, 10, 11, 12]),
-            Some([7, 0x11, 0x22, 0x33, 0x44, 12])
-        )
+            Some([7, 0x11, 0x22, 0x33, 0x44, 12]),
+        ),
     );
     let written = hart.sets.letter(line_of(0x10080));
     let read = hart.sets.letter(line_of(LOCK));
-    assert_eq!(rt;
+    same(
+        &rt,
         (written, read, hart.section.hold().first()),
-        (Letter::M, Letter::E, None)
+        (Letter::M, Letter::E, None),
     );
     Ok(())
 }
@@ -442,9 +449,10 @@ fn a_byte_a_half_and_a_word_over_one_another_are_gone_after_a_rollback(
         loads(&rt, &mut hart, &[(0x10080, word)])?;
     }
     roll_back(&mut hart);
-    assert_eq!(rt;
+    same(
+        &rt,
         (hart.section.live(), pcs(&hart), hart.section.hold().len()),
-        (None, (0x10000, 0x10000), 0)
+        (None, (0x10000, 0x10000), 0),
     );
     Ok(())
 }
@@ -455,7 +463,7 @@ fn the_last_line_that_may_be_written_is_held(rt: HostRuntime) -> Result<(), Fail
     let mut hart = begun(rt.alloc(), None, &lines)?;
     for (address, held) in [(0x10080, 1), (0x100fc, 2), (0x10084, 2)] {
         store(&mut hart, address, 4, 0x5555_5555)?;
-        assert_eq!(rt; hart.section.hold().len(), held, "{address}");
+        same_at(&rt, address, hart.section.hold().len(), held);
     }
     assert!(rt; wrote(&hart, 0x100c0));
     loads(&rt, &mut hart, &[(0x100fc, 0x5555_5555)])
@@ -468,7 +476,7 @@ fn a_checkpoint_loses_its_reservation_and_the_live_view_keeps_its_own(
     let mut hart = begun(rt.alloc(), Some(0x10088), &[(0x10080, Need::Read)])?;
     let _word = load(&mut hart, 0x1008c)?;
     hart.section.unreserve(line_of(0x10080));
-    assert_eq!(rt; reservations(&hart), (Some(0x1008c), None));
+    same(&rt, reservations(&hart), (Some(0x1008c), None));
     Ok(())
 }
 
@@ -481,14 +489,15 @@ fn an_armed_section_becomes_a_live_one_and_commits(rt: HostRuntime) -> Result<()
         put(&mut hart, X8, value)?;
     }
     let (count, word) = (3, LOCK);
-    assert_eq!(rt;
+    same(
+        &rt,
         (
             reserved,
             hart.section.armed(),
             hart.section.live(),
-            wrote(&hart, LOCK)
+            wrote(&hart, LOCK),
         ),
-        (Some(LOCK), Some(Armed { count, word }), None, false)
+        (Some(LOCK), Some(Armed { count, word }), None, false),
     );
     elide(&mut hart, X6)?;
     let live = Live {
@@ -497,30 +506,33 @@ fn an_armed_section_becomes_a_live_one_and_commits(rt: HostRuntime) -> Result<()
         old: FREE,
         new: TAKEN,
     };
-    assert_eq!(rt;
+    same(
+        &rt,
         (
             hart.section.armed(),
             hart.section.live(),
-            hart.section.shown().reserved
+            hart.section.shown().reserved,
         ),
-        (None, Some(live), None)
+        (None, Some(live), None),
     );
-    assert_eq!(rt;
+    same(
+        &rt,
         (
             word_in(&hart, X6),
             word_in(&hart, X8),
-            hart.section.committed().pc
+            hart.section.committed().pc,
         ),
-        (0, 9, 0x10000)
+        (0, 9, 0x10000),
     );
     commit(&mut hart, STORE_WORD)?;
-    assert_eq!(rt;
+    same(
+        &rt,
         (
             hart.section.committed().pc,
             hart.section.live(),
-            bytes_at(&hart, LOCK)
+            bytes_at(&hart, LOCK),
         ),
-        (0x10014, None, before)
+        (0x10014, None, before),
     );
     Ok(())
 }
@@ -537,11 +549,12 @@ fn an_armed_section_that_is_let_go_keeps_its_view(rt: HostRuntime) -> Result<(),
         reserved,
         ..
     } = hart.section.committed();
-    assert_eq!(rt;
+    same(
+        &rt,
         (before, hart.section.armed(), *pc, *reserved),
-        (0x10000, None, 0x10008, Some(LOCK))
+        (0x10000, None, 0x10008, Some(LOCK)),
     );
-    assert_eq!(rt; (regs.get(X5), regs.get(X8)), (FREE, 7));
+    same(&rt, (regs.get(X5), regs.get(X8)), (FREE, 7));
     Ok(())
 }
 
@@ -553,7 +566,7 @@ fn a_register_that_is_written_over_after_its_lr_does_not_change_the_old_value(
         let mut hart = armed(rt.alloc(), X5, &[(LOCK, Need::Read)])?;
         put(&mut hart, X5, value)?;
         elide(&mut hart, X5)?;
-        assert_eq!(rt; old_value(&hart), Some(FREE), "{value:#x}");
+        same_at(&rt, value, old_value(&hart), Some(FREE));
     }
     Ok(())
 }

@@ -6,6 +6,7 @@ ghost use Rattle.std.specs.Prelude.{◌≡◌};
 ghost use Rattle.cache_sets.specs.Slotted.{IsLent};
 ghost use Rattle.rv_alu.specs.declared.view.HartStatus.TheVariants.{Running};
 
+use crate::asserts::same_at;
 use cache_sets::Sets;
 use cached_step::*;
 use core_step::Ended;
@@ -174,10 +175,11 @@ fn looks(rt: &impl Abort, cache: &mut Cache, letter: Letter, memory: u32, least:
     };
     let copies = [copy(cache, ADDRESS), copy(cache, OTHER)];
     let other = (Letter::S, Some([0x55; 64]));
-    assert_eq!(rt;
+    same_at(
+        rt,
+        word,
         (copies, fill(cache, THIRD, Letter::E, &[0; 64])),
         ([(letter, bytes), other], gone),
-        "after {word:#x}"
     );
 }
 
@@ -208,7 +210,7 @@ fn what_a_letter_permits_to_read_is_read(rt: HostRuntime) -> Result<(), Fail> {
             } else {
                 (needs(Need::Read), hart(&rt))
             };
-            assert_eq!(rt; (ended, view), wanted, "{letter:?} {word:#x}");
+            same_at(&rt, (letter, word), (ended, view), wanted);
             // it is the more recent line now, where it is there
             looks(&rt, &mut cache, letter, MEMORY, OTHER, word);
         }
@@ -228,7 +230,7 @@ fn what_a_letter_permits_to_write_is_modified(rt: HostRuntime) -> Result<(), Fai
             } else {
                 (needs(Need::Write), hart(&rt))
             };
-            assert_eq!(rt; (ended, view), wanted, "{letter:?} {word:#x}");
+            same_at(&rt, (letter, word), (ended, view), wanted);
             if writes {
                 looks(&rt, &mut cache, Letter::M, memory, OTHER, word);
             } else {
@@ -262,10 +264,11 @@ fn what_touches_nothing_leaves_the_cache(rt: HostRuntime) -> Result<(), Fail> {
             view.reserved = Some(ADDRESS + 4);
         }
         let found = run(&rt, &mut cache, &mut view, word);
-        assert_eq!(rt;
+        same_at(
+            &rt,
+            word,
             (found, view.regs.get(register(&rt, 8)), view.reserved),
             (ended, value, reserved),
-            "{word:#x}"
         );
         looks(&rt, &mut cache, Letter::E, MEMORY, ADDRESS, word);
     }

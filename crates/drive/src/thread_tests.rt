@@ -1,15 +1,16 @@
 //! Drivers on threads, over the small program of the other tests.
 use super::*;
-use crate::tests::machine;
+use crate::tests::{machine, same};
 use el_base::{Chronicled, HartId, Kind, Mode, Outcome};
 use el_io::{Gate, OpenGate};
 use machine::Machine;
+use std::alloc::Global;
 use std::process::Abort;
 use std::sync::Wait;
 use std::sync::atomic::AtomicBool;
 use std::sync::atomic::Ordering::SeqCst;
 use std::test::Fail;
-use std::thread::yield_now;
+use std::thread::{Threads, yield_now};
 
 const KINDS: [Kind; 4] = [Kind::Step, Kind::Order, Kind::Serve, Kind::Deliver];
 
@@ -69,13 +70,36 @@ fn is_by_turns(rt: &impl Abort, machine: &Machine, turns: u32) {
     for place in 0..machine.history().length() {
         let event = machine.history().entry(place).event;
         let made = &mut next[usize::from(event.hart.number)];
-        assert_eq!(rt; event.kind, KINDS[(*made % 4) as usize]);
+        same(rt, event.kind, KINDS[(*made % 4) as usize]);
         *made = made.saturating_add(1);
     }
     let harts = usize::from(machine.config().harts);
     for (hart, made) in next.iter().enumerate() {
         let wanted = if hart < harts { turns } else { 0 };
-        assert_eq!(rt; *made, wanted);
+        same(rt, *made, wanted);
+    }
+}
+
+/// A machine after so many turns of its drivers.
+fn driven<R: Threads + Wait + Sync, G: Gate + Sync>(
+    rt: &R,
+    alloc: Global,
+    machine: Machine,
+    turns: u32,
+    gate: &G,
+) -> Result<Machine, Fail> {
+    Ok(
+        by_threads(rt, alloc, machine, turns, gate)
+            .ok()
+            .ok_or("no memory")?,
+    )
+}
+
+/// What comes of the events of a machine, from its first one on.
+fn begins_with(rt: &impl Abort, machine: &Machine, outcomes: &[Outcome]) {
+    for (place, outcome) in outcomes.iter().enumerate() {
+        assert!(rt; place < machine.history().length() as usize);
+        same(rt, machine.history().entry(place as u32).outcome, *outcome);
     }
 }
 
@@ -83,37 +107,35 @@ fn is_by_turns(rt: &impl Abort, machine: &Machine, turns: u32) {
 #[test]
 fn four_turns_are_one_of_each_kind(rt: HostRuntime) -> Result<(), Fail> {
     let machine = machine(&rt, rt.alloc(), 1, Mode::Tlr, 100)?;
-    let Ok(machine) = by_threads(&rt, rt.alloc(), machine, 4, &OpenGate::new()) else {
-        return Err("no memory".into());
-    };
+    let machine = driven(&rt, rt.alloc(), machine, 4, &OpenGate::new())?;
     let outcomes = [Outcome::Ran, Outcome::Idle, Outcome::Idle, Outcome::Idle];
-    assert_eq!(rt; machine.history().length(), 4);
+    same(&rt, machine.history().length(), 4);
     is_by_turns(&rt, &machine, 4);
-    for (place, outcome) in outcomes.iter().enumerate() {
-        assert!(rt; place < 4);
-        assert_eq!(rt; machine.history().entry(place as u32).outcome, *outcome);
-    }
+    begins_with(&rt, &machine, &outcomes);
     Ok(())
 }
 
-/// Whatever the drivers have left of the program, a round robin brings it to its end, and each hart has written its
-/// line.
+/// Whatever the drivers have left of the program, a round robin brings it to its end.
+fn goes_on(rt: &impl Abort, machine: &mut Machine, output: &[u8]) {
+    is_by_turns(rt, machine, 20);
+    round_robin(machine);
+    same(rt, (machine.over(), machine.output()), (true, output));
+}
+
+/// Harts, and the output where each of them has written its line.
+const OUTPUTS: &[(u8, &[u8])] = &[
+    (1, b"A\n"),
+    (2, b"A\nA\n"),
+    (8, b"A\nA\nA\nA\nA\nA\nA\nA\n"),
+];
+
 #[test]
 fn a_round_robin_goes_on_from_drivers(rt: HostRuntime) -> Result<(), Fail> {
     for mode in [Mode::Plain, Mode::Sle, Mode::Tlr] {
-        for (harts, output) in [
-            (1, b"A\n".as_slice()),
-            (2, b"A\nA\n"),
-            (8, b"A\nA\nA\nA\nA\nA\nA\nA\n"),
-        ] {
+        for &(harts, output) in OUTPUTS {
             let machine = machine(&rt, rt.alloc(), harts, mode, 10_000)?;
-            let Ok(mut machine) = by_threads(&rt, rt.alloc(), machine, 20, &OpenGate::new()) else {
-                return Err("no memory".into());
-            };
-            is_by_turns(&rt, &machine, 20);
-            round_robin(&mut machine);
-            assert!(rt; machine.over());
-            assert_eq!(rt; machine.output(), output);
+            let mut machine = driven(&rt, rt.alloc(), machine, 20, &OpenGate::new())?;
+            goes_on(&rt, &mut machine, output);
         }
     }
     Ok(())
@@ -122,17 +144,15 @@ fn a_round_robin_goes_on_from_drivers(rt: HostRuntime) -> Result<(), Fail> {
 /// Drivers are inside at once: each of two waits for the other before its first turn, and meets it.
 #[test]
 fn two_drivers_meet(rt: HostRuntime) -> Result<(), Fail> {
-    let machine = machine(&rt, rt.alloc(), 2, Mode::Tlr, 100)?;
     let gate = Meeting {
         first: Corner::new(),
         second: Corner::new(),
     };
-    let Ok(machine) = by_threads(&rt, rt.alloc(), machine, 8, &gate) else {
-        return Err("no memory".into());
-    };
+    let machine = machine(&rt, rt.alloc(), 2, Mode::Tlr, 100)?;
+    let machine = driven(&rt, rt.alloc(), machine, 8, &gate)?;
     is_by_turns(&rt, &machine, 8);
-    assert!(rt; gate.first.met.load(SeqCst));
-    assert!(rt; gate.second.met.load(SeqCst));
+    let met = (gate.first.met.load(SeqCst), gate.second.met.load(SeqCst));
+    same(&rt, met, (true, true));
     Ok(())
 }
 
@@ -140,10 +160,8 @@ fn two_drivers_meet(rt: HostRuntime) -> Result<(), Fail> {
 #[test]
 fn drivers_end_with_the_last_step(rt: HostRuntime) -> Result<(), Fail> {
     let machine = machine(&rt, rt.alloc(), 2, Mode::Tlr, 10)?;
-    let Ok(machine) = by_threads(&rt, rt.alloc(), machine, 16_777_216, &OpenGate::new()) else {
-        return Err("no memory".into());
-    };
-    assert_eq!(rt; machine.history().length(), 10);
-    assert_eq!(rt; machine.steps_left(), 0);
+    let machine = driven(&rt, rt.alloc(), machine, 16_777_216, &OpenGate::new())?;
+    let counts = (machine.history().length(), machine.steps_left());
+    same(&rt, counts, (10, 0));
     Ok(())
 }

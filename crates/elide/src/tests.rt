@@ -4,6 +4,7 @@
 //! Their values were worked out by hand from the RISC-V manual, the ELF specification and this project's profile, and never
 //! taken from what the program printed.
 
+mod asserts;
 mod certificates;
 mod devices;
 mod generated;

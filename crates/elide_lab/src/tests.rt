@@ -2,6 +2,7 @@
 //!
 //! They stand here, and not in those crates, since the tests of a crate prove all of it once more.
 
+mod asserts;
 mod commands;
 mod following;
 mod names;

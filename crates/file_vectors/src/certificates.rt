@@ -1,6 +1,7 @@
 ghost use Rattle.std.specs.Prelude.{◌≡◌, IfOk};
 ghost use Rattle.run_check.specs.Certified.{IsHistoryOf, IsStateOf};
 
+use crate::asserts::same;
 use chronicle::History;
 use el_base::{Entry, Event, Freed, HartId, Kind, Losers, Outcome};
 use el_io::SureShelf;
@@ -53,27 +54,30 @@ fn changed(alloc: Global, place: usize, byte: u8) -> Result<Vec<u8>, Fail> {
 #[test]
 fn the_first_certificate_is_judged(rt: HostRuntime) -> Result<(), Fail> {
     let alloc = rt.alloc();
-    assert_eq!(rt;
+    same(
+        &rt,
         verdict(&rt, alloc, &CERTIFICATE)?,
-        Verdict::Holds { serial: 9 }
+        Verdict::Holds { serial: 9 },
     );
     let short = verdict(&rt, alloc, &changed(alloc, 11, 8)?)?;
-    assert_eq!(rt;
+    same(
+        &rt,
         short,
         Verdict::Fails {
             number: 1,
-            place: 0
-        }
+            place: 0,
+        },
     );
     let long = verdict(&rt, alloc, &changed(alloc, 11, 10)?)?;
-    assert_eq!(rt; long, Verdict::Holds { serial: 10 });
+    same(&rt, long, Verdict::Holds { serial: 10 });
     let other = verdict(&rt, alloc, &changed(alloc, 158, 0x0b)?)?;
-    assert_eq!(rt;
+    same(
+        &rt,
         other,
         Verdict::Fails {
             number: 2,
-            place: 1
-        }
+            place: 1,
+        },
     );
     Ok(())
 }
@@ -81,12 +85,13 @@ fn the_first_certificate_is_judged(rt: HostRuntime) -> Result<(), Fail> {
 #[test]
 fn each_fault_has_its_place(rt: HostRuntime) -> Result<(), Fail> {
     let cut = read_certificate(rt.alloc(), &CERTIFICATE[..162]);
-    assert_eq!(rt;
+    same(
+        &rt,
         cut.err(),
         Some(CertFault::Bad {
             number: 1,
-            place: 162
-        })
+            place: 162,
+        }),
     );
     let changes = [
         shows(3, 0x52, 2, 3),
@@ -106,16 +111,17 @@ fn each_fault_has_its_place(rt: HostRuntime) -> Result<(), Fail> {
             number: change.number,
             place: change.shown,
         };
-        assert_eq!(rt; read_certificate(rt.alloc(), &file).err(), Some(fault));
+        same(&rt, read_certificate(rt.alloc(), &file).err(), Some(fault));
     }
     let mut file = changed(rt.alloc(), 0, 0x45)?;
     file.push(0)?;
-    assert_eq!(rt;
+    same(
+        &rt,
         read_certificate(rt.alloc(), &file).err(),
         Some(CertFault::Bad {
             number: 9,
-            place: 163
-        })
+            place: 163,
+        }),
     );
     Ok(())
 }
@@ -157,7 +163,7 @@ fn the_first_certificate_is_written(rt: HostRuntime) -> Result<(), Fail> {
     let made = nine_steps(alloc, &image)?;
     let mut shelf = SureShelf::make(alloc, &[], &[])?;
     write_certificate(alloc, &mut shelf, "c", &image, &made.history, &made.flat)?;
-    assert_eq!(rt; shelf.contents("c"), CERTIFICATE.as_slice());
+    same(&rt, shelf.contents("c"), CERTIFICATE.as_slice());
     Ok(())
 }
 
@@ -235,6 +241,6 @@ fn freed_harts_are_certified(rt: HostRuntime) -> Result<(), Fail> {
     let made = two_freed(alloc, &image)?;
     let mut shelf = SureShelf::make(alloc, &[], &[])?;
     write_certificate(alloc, &mut shelf, "c", &image, &made.history, &made.flat)?;
-    assert_eq!(rt; shelf.contents("c"), THREE_HARTS.as_slice());
+    same(&rt, shelf.contents("c"), THREE_HARTS.as_slice());
     Ok(())
 }

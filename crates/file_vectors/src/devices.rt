@@ -1,3 +1,4 @@
+use crate::asserts::{same, same_at};
 use el_io::*;
 use std::fs;
 use std::test::Fail;
@@ -7,7 +8,7 @@ fn sure_sink_keeps_the_first_bytes(rt: HostRuntime) -> Result<(), Fail> {
     let mut sink = SureSink::make(rt.alloc(), 3)?;
     for (bytes, kept) in [("ab", "ab"), ("", "ab"), ("cd", "abc"), ("e", "abc")] {
         put_all(&mut sink, bytes.as_bytes())?;
-        assert_eq!(rt; sink.taken(), kept.as_bytes(), "after {bytes:?}");
+        same_at(&rt, bytes, sink.taken(), kept.as_bytes());
     }
     Ok(())
 }
@@ -23,9 +24,9 @@ fn mem_sink_fails_where_it_is_told_to(rt: HostRuntime) -> Result<(), Fail> {
         ("", Ok(0)),
     ];
     for (bytes, answer) in rows {
-        assert_eq!(rt; sink.put(bytes.as_bytes()), answer, "at {bytes:?}");
+        same_at(&rt, bytes, sink.put(bytes.as_bytes()), answer);
     }
-    assert_eq!(rt; sink.taken(), b"abcd".as_slice());
+    same(&rt, sink.taken(), b"abcd".as_slice());
     Ok(())
 }
 
@@ -33,10 +34,10 @@ fn mem_sink_fails_where_it_is_told_to(rt: HostRuntime) -> Result<(), Fail> {
 #[test]
 fn put_all_stops_at_a_fault(rt: HostRuntime) -> Result<(), Fail> {
     let mut sink = MemSink::make(rt.alloc(), 16, 1, &[2])?;
-    assert_eq!(rt; put_all(&mut sink, b"A\n"), Err(Failed));
-    assert_eq!(rt; sink.taken(), b"A".as_slice());
+    same(&rt, put_all(&mut sink, b"A\n"), Err(Failed));
+    same(&rt, sink.taken(), b"A".as_slice());
     put_all(&mut sink, b"\n")?;
-    assert_eq!(rt; sink.taken(), b"A\n".as_slice());
+    same(&rt, sink.taken(), b"A\n".as_slice());
     Ok(())
 }
 
@@ -54,20 +55,22 @@ fn mem_shelf_fails_where_it_is_told_to(rt: HostRuntime) -> Result<(), Fail> {
     for (name, limit, answer) in reads {
         let read = shelf.read(rt.alloc(), name, limit);
         let bytes = read.as_ref().map(|bytes| bytes.as_slice());
-        assert_eq!(rt;
+        same_at(
+            &rt,
+            (name, limit),
             bytes,
             answer.as_ref().map(|text| text.as_bytes()),
-            "{name} to {limit}"
         );
     }
-    assert_eq!(rt; shelf.write(rt.alloc(), "b", b"new"), Ok(()));
-    assert_eq!(rt;
+    same(&rt, shelf.write(rt.alloc(), "b", b"new"), Ok(()));
+    same(
+        &rt,
         shelf.write(rt.alloc(), "a", b"lost"),
-        Err(ShelfFault::Failed)
+        Err(ShelfFault::Failed),
     );
-    assert_eq!(rt; shelf.contents("a"), b"xyz".as_slice());
-    assert_eq!(rt; shelf.contents("b"), b"new".as_slice());
-    assert_eq!(rt; shelf.contents("c"), b"".as_slice());
+    same(&rt, shelf.contents("a"), b"xyz".as_slice());
+    same(&rt, shelf.contents("b"), b"new".as_slice());
+    same(&rt, shelf.contents("c"), b"".as_slice());
     Ok(())
 }
 
@@ -76,19 +79,25 @@ fn sure_shelf_reads_a_missing_file_as_empty(rt: HostRuntime) -> Result<(), Fail>
     let names = [String::from_str(rt.alloc(), "a")?];
     let contents = [Vec::from_slice(rt.alloc(), b"xyz")?];
     let mut shelf = SureShelf::make(rt.alloc(), &names, &contents)?;
-    assert_eq!(rt;
+    same(
+        &rt,
         shelf.read(rt.alloc(), "a", 3)?.as_slice(),
-        b"xyz".as_slice()
+        b"xyz".as_slice(),
     );
-    assert_eq!(rt;
+    same(
+        &rt,
         shelf.read(rt.alloc(), "a", 2).err(),
-        Some(ShelfFault::TooBig)
+        Some(ShelfFault::TooBig),
     );
-    assert_eq!(rt; shelf.read(rt.alloc(), "b", 0)?.as_slice(), b"".as_slice());
+    same(
+        &rt,
+        shelf.read(rt.alloc(), "b", 0)?.as_slice(),
+        b"".as_slice(),
+    );
     shelf.write(rt.alloc(), "a", b"")?;
     shelf.write(rt.alloc(), "b", b"new")?;
-    assert_eq!(rt; shelf.contents("a"), b"".as_slice());
-    assert_eq!(rt; shelf.contents("b"), b"new".as_slice());
+    same(&rt, shelf.contents("a"), b"".as_slice());
+    same(&rt, shelf.contents("b"), b"new".as_slice());
     Ok(())
 }
 
@@ -98,21 +107,24 @@ fn folder_shelf_reads_what_it_wrote(rt: HostRuntime) -> Result<(), Fail> {
     let mut shelf = FolderShelf::new(&rt, rt.alloc());
     let text = [b'x'; 5000];
     shelf.write(rt.alloc(), name, &text)?;
-    assert_eq!(rt;
+    same(
+        &rt,
         shelf.read(rt.alloc(), name, 5000)?.as_slice(),
-        text.as_slice()
+        text.as_slice(),
     );
-    assert_eq!(rt;
+    same(
+        &rt,
         shelf.read(rt.alloc(), name, 4999).err(),
-        Some(ShelfFault::TooBig)
+        Some(ShelfFault::TooBig),
     );
     fs::remove_file(&rt, name)?;
-    assert_eq!(rt;
+    same(
+        &rt,
         shelf.read(rt.alloc(), name, 5000).err(),
-        Some(ShelfFault::Failed)
+        Some(ShelfFault::Failed),
     );
     let lost = shelf.write(rt.alloc(), "el_io_no_such_folder/file", &text);
-    assert_eq!(rt; lost, Err(ShelfFault::Failed));
+    same(&rt, lost, Err(ShelfFault::Failed));
     Ok(())
 }
 
@@ -135,7 +147,7 @@ fn folder_shelf_ends_with_every_name(rt: HostRuntime) -> Result<(), Fail> {
     for (name, limit, answer) in UNUSUAL {
         let read = shelf.read(rt.alloc(), name, *limit);
         let length = read.map(|bytes| bytes.len());
-        assert_eq!(rt; length, *answer, "{name} to {limit}");
+        same_at(&rt, (name, limit), length, *answer);
     }
     Ok(())
 }
@@ -147,12 +159,13 @@ fn stream_sink_writes_a_file(rt: HostRuntime) -> Result<(), Fail> {
     put_all(&mut sink, b"one ")?;
     put_all(&mut sink, b"two")?;
     drop(sink);
-    assert_eq!(rt; fs::read(&rt, name)?.as_slice(), b"one two".as_slice());
+    same(&rt, fs::read(&rt, name)?.as_slice(), b"one two".as_slice());
     let mut closed = StreamSink::new(fs::open(&rt, name)?);
-    assert_eq!(rt;
+    same_at(
+        &rt,
+        "a file open to be read",
         put_all(&mut closed, b"three"),
         Err(Failed),
-        "a file open to be read"
     );
     fs::remove_file(&rt, name)?;
     Ok(())
@@ -165,6 +178,6 @@ fn stream_sink_tells_what_a_list_holds(rt: HostRuntime) -> Result<(), Fail> {
     put_all(&mut sink, b"one ")?;
     put_all(&mut sink, b"two")?;
     drop(sink);
-    assert_eq!(rt; list.as_slice(), b"one two".as_slice());
+    same(&rt, list.as_slice(), b"one two".as_slice());
     Ok(())
 }

@@ -1,6 +1,7 @@
 //! Whole runs on plain memory. In its turn each hart makes one step more than the one before it, so that harts drift
 //! apart and meet in each other's rounds: in lockstep a program without its locks may lose no update.
 
+use crate::asserts::{same, same_at};
 use el_base::HartId;
 use elf_image::{IMAGE_FILE_LIMIT, load};
 use rv_flat::{Flat, HartStatus};
@@ -73,9 +74,13 @@ fn hart_0_tells_the_sum(rt: HostRuntime) -> Result<(), Fail> {
     ] {
         let file = build(rt.alloc(), kind, number)?;
         let flat = run(&rt, rt.alloc(), &file, harts)?;
-        assert_eq!(rt; flat.output(), told.as_slice(), "{kind:?} {harts}");
+        same_at(&rt, (kind, harts), flat.output(), told.as_slice());
         for hart in 0..harts {
-            assert_eq!(rt; status(&rt, &flat, hart), HartStatus::Exited { code: 0 });
+            same(
+                &rt,
+                status(&rt, &flat, hart),
+                HartStatus::Exited { code: 0 },
+            );
         }
     }
     Ok(())
@@ -107,7 +112,7 @@ fn harts_draw_what_another_program_draws(rt: HostRuntime) -> Result<(), Fail> {
         let file = build(rt.alloc(), kind, number)?;
         let flat = run(&rt, rt.alloc(), &file, harts)?;
         for (index, count) in (0..).zip(wanted) {
-            assert_eq!(rt; word(&rt, &flat, index), *count, "{kind:?} {index}");
+            same_at(&rt, (kind, index), word(&rt, &flat, index), *count);
         }
     }
     Ok(())
@@ -193,6 +198,6 @@ fn words_are_those_of_the_assembler(rt: HostRuntime) -> Result<(), Fail> {
     }
     let file = build(rt.alloc(), Work::Counter, 7)?;
     let words = file.get(WORDS_PLACE..WORDS_PLACE + 4 * COUNTER.len());
-    assert_eq!(rt; words, Some(wanted.as_slice()));
+    same(&rt, words, Some(wanted.as_slice()));
     Ok(())
 }

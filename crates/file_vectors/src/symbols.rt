@@ -1,6 +1,7 @@
 //! A file of three sections, made by a script, in which GNU readelf 2.40 reads seven symbols: none, `lock_end` at 0x10048,
 //! `_start` at 0x10010, `lock` at 0x10020, the mapping symbol `$x` at 0x10024, `elsewhere`, which is undefined, and the
 //! section's own at 0x10034.
+use crate::asserts::same;
 use elf_symbols::{SymbolsFault, read_symbols};
 use std::process::Abort;
 use std::test::Fail;
@@ -41,10 +42,10 @@ fn an_address_has_the_symbol_at_or_below_it(rt: HostRuntime) -> Result<(), Fail>
         (0xffff_ffff, "lock_end", 0x1_0048),
     ] {
         let symbol = symbols.nearest(address).ok_or("no symbol")?;
-        assert_eq!(rt; symbol.value, value);
-        assert_eq!(rt; symbols.name(symbol), name);
+        same(&rt, symbol.value, value);
+        same(&rt, symbols.name(symbol), name);
     }
-    assert_eq!(rt; symbols.nearest(0x1_000f), None);
+    same(&rt, symbols.nearest(0x1_000f), None);
     Ok(())
 }
 
@@ -57,7 +58,7 @@ fn fault(rt: &HostRuntime, file: &[u8]) -> Option<SymbolsFault> {
 #[test]
 fn a_broken_table_is_told(rt: HostRuntime) -> Result<(), Fail> {
     for len in 0..FILE.len() {
-        assert_eq!(rt; fault(&rt, &FILE[..len]), Some(SymbolsFault::Broken));
+        same(&rt, fault(&rt, &FILE[..len]), Some(SymbolsFault::Broken));
     }
     for (place, byte) in [
         (0, 0),
@@ -71,11 +72,11 @@ fn a_broken_table_is_told(rt: HostRuntime) -> Result<(), Fail> {
         let mut file = FILE;
         assert!(rt; place < file.len());
         file[place] = byte;
-        assert_eq!(rt; fault(&rt, &file), Some(SymbolsFault::Broken));
+        same(&rt, fault(&rt, &file), Some(SymbolsFault::Broken));
     }
     let mut file = FILE;
     file[48] = 0;
     let symbols = read_symbols(rt.alloc(), &file).map_err(|_| "no table")?;
-    assert_eq!(rt; symbols.nearest(0xffff_ffff), None);
+    same(&rt, symbols.nearest(0xffff_ffff), None);
     Ok(())
 }

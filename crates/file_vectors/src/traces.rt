@@ -2,6 +2,7 @@ ghost use Rattle.std.specs.Prelude.{◌≡◌, ◌^◌, ◌<◌, length, IfOk};
 ghost use Rattle.chronicle.specs.Chronicle.{events};
 ghost use Rattle.trace_file.specs.Spelling.{outcomes};
 
+use crate::asserts::{same, same_at};
 use chronicle::History;
 use el_base::{
     Cause, Config, Entry, Event, FileFault, FormatFault, HartId, Kind, Mode, Numbered, Outcome,
@@ -103,18 +104,19 @@ fn bad(fault: Option<(FaultKind, u32)>) -> Option<FileFault> {
 #[test]
 fn the_worked_trace_is_read(rt: HostRuntime) -> Result<(), Fail> {
     let trace = read_trace(rt.alloc(), &worked(rt.alloc())?)?;
-    assert_eq!(rt; trace.config, Config::usual());
-    assert_eq!(rt; trace.events.as_slice().len(), 37);
+    same(&rt, trace.config, Config::usual());
+    same(&rt, trace.events.as_slice().len(), 37);
     assert!(rt; trace.recorded.is_none());
     let hart = HartId::new(0).ok_or("no hart 0")?;
     for (place, event) in trace.events.as_slice().iter().enumerate() {
-        assert_eq!(rt;
+        same_at(
+            &rt,
+            place,
             *event,
             Event {
                 kind: KINDS[place % 4],
-                hart
+                hart,
             },
-            "at {place}"
         );
     }
     Ok(())
@@ -133,11 +135,11 @@ fn each_kind_and_hart_has_its_byte(rt: HostRuntime) -> Result<(), Fail> {
         }
     }
     let trace = read_trace(rt.alloc(), &file)?;
-    assert_eq!(rt; trace.config.harts, 8);
-    assert_eq!(rt; trace.events.as_slice().len(), 32);
+    same(&rt, trace.config.harts, 8);
+    same(&rt, trace.events.as_slice().len(), 32);
     for (place, event) in trace.events.as_slice().iter().enumerate() {
-        assert_eq!(rt; event.kind, KINDS[place / 8 % 4], "at {place}");
-        assert_eq!(rt; event.hart.number as usize, place % 8, "at {place}");
+        same_at(&rt, place, event.kind, KINDS[place / 8 % 4]);
+        same_at(&rt, place, event.hart.number as usize, place % 8);
     }
     Ok(())
 }
@@ -148,12 +150,8 @@ fn each_mode_has_its_byte(rt: HostRuntime) -> Result<(), Fail> {
     for (byte, mode) in [(0, Mode::Plain), (1, Mode::Sle), (2, Mode::Tlr)] {
         let mut file = recorded(rt.alloc())?;
         change(&mut file, &[(6, byte)]);
-        assert_eq!(rt;
-            read_trace(rt.alloc(), &file)?.config.mode,
-            mode,
-            "byte {byte}"
-        );
-        assert_eq!(rt; rewritten(rt.alloc(), &file)?, file, "byte {byte}");
+        same_at(&rt, byte, read_trace(rt.alloc(), &file)?.config.mode, mode);
+        same_at(&rt, byte, rewritten(rt.alloc(), &file)?, file);
     }
     Ok(())
 }
@@ -170,7 +168,7 @@ fn each_kind_has_its_number(rt: HostRuntime) {
         (FaultKind::Tail, 6),
         (FaultKind::Outcome, 7),
     ] {
-        assert_eq!(rt; kind.number(), number, "{kind:?}");
+        same_at(&rt, kind, kind.number(), number);
     }
 }
 
@@ -180,10 +178,14 @@ fn each_cut_is_short(rt: HostRuntime) -> Result<(), Fail> {
     for len in 0..59_u32 {
         assert!(rt; len as usize <= file.len());
         let cut = fault_of(rt.alloc(), &file[..len as usize]);
-        assert_eq!(rt; cut, Some(FaultKind::Short.at(len)), "cut to {len}");
+        same_at(&rt, len, cut, Some(FaultKind::Short.at(len)));
     }
     file.push(0x00)?;
-    assert_eq!(rt; fault_of(rt.alloc(), &file), Some(FaultKind::Tail.at(59)));
+    same(
+        &rt,
+        fault_of(rt.alloc(), &file),
+        Some(FaultKind::Tail.at(59)),
+    );
     Ok(())
 }
 
@@ -254,20 +256,12 @@ fn the_first_fault_is_answered(rt: HostRuntime) -> Result<(), Fail> {
     for (changes, fault) in FAULTS {
         let mut file = worked(rt.alloc())?;
         change(&mut file, changes);
-        assert_eq!(rt;
-            fault_of(rt.alloc(), &file),
-            bad(*fault),
-            "after {changes:?}"
-        );
+        same_at(&rt, changes, fault_of(rt.alloc(), &file), bad(*fault));
     }
     for (changes, fault) in RECORDED_FAULTS {
         let mut file = recorded(rt.alloc())?;
         change(&mut file, changes);
-        assert_eq!(rt;
-            fault_of(rt.alloc(), &file),
-            bad(*fault),
-            "after {changes:?}"
-        );
+        same_at(&rt, changes, fault_of(rt.alloc(), &file), bad(*fault));
     }
     Ok(())
 }
@@ -278,17 +272,21 @@ fn each_cut_of_a_recorded_trace_is_short(rt: HostRuntime) -> Result<(), Fail> {
     for len in 0..116_u32 {
         assert!(rt; len as usize <= file.len());
         let cut = fault_of(rt.alloc(), &file[..len as usize]);
-        assert_eq!(rt; cut, Some(FaultKind::Short.at(len)), "cut to {len}");
+        same_at(&rt, len, cut, Some(FaultKind::Short.at(len)));
     }
     file.push(0x00)?;
-    assert_eq!(rt; fault_of(rt.alloc(), &file), Some(FaultKind::Tail.at(116)));
+    same(
+        &rt,
+        fault_of(rt.alloc(), &file),
+        Some(FaultKind::Tail.at(116)),
+    );
     Ok(())
 }
 
 #[test]
 fn the_recorded_trace_is_written(rt: HostRuntime) -> Result<(), Fail> {
     let file = recorded(rt.alloc())?;
-    assert_eq!(rt; rewritten(rt.alloc(), &file)?, file);
+    same(&rt, rewritten(rt.alloc(), &file)?, file);
     Ok(())
 }
 
@@ -337,7 +335,7 @@ fn each_outcome_has_its_bytes(rt: HostRuntime) -> Result<(), Fail> {
         let trace = read_trace(rt.alloc(), &file)?;
         let recorded = trace.recorded.ok_or("no outcomes")?;
         let outcome = *recorded.first().ok_or("no outcome")?;
-        assert_eq!(rt; outcome_spelling(outcome).as_bytes(), *bytes, "{bytes:?}");
+        same_at(&rt, bytes, outcome_spelling(outcome).as_bytes(), *bytes);
     }
     Ok(())
 }
@@ -371,7 +369,7 @@ fn plain_outcomes_are_spelled(rt: HostRuntime) {
         (&[14, 3], Outcome::LetGo { count: 3 }),
     ];
     for (bytes, outcome) in rows {
-        assert_eq!(rt; outcome_spelling(outcome).as_bytes(), bytes, "{bytes:?}");
+        same_at(&rt, bytes, outcome_spelling(outcome).as_bytes(), bytes);
     }
 }
 
@@ -419,10 +417,11 @@ const ENTRY_FAULTS: &[(u8, &[u8], FaultKind, u32)] = &[
 fn the_first_fault_of_an_entry_is_answered(rt: HostRuntime) -> Result<(), Fail> {
     for (harts, entry, kind, place) in ENTRY_FAULTS {
         let file = of_one_entry(rt.alloc(), *harts, entry)?;
-        assert_eq!(rt;
+        same_at(
+            &rt,
+            entry,
             fault_of(rt.alloc(), &file),
             Some(kind.at(*place)),
-            "{entry:?}"
         );
     }
     Ok(())
@@ -433,8 +432,8 @@ fn a_shelf_that_fails_is_told_of(rt: HostRuntime) -> Result<(), Fail> {
     let history = History::make(rt.alloc(), 1)?;
     let mut shelf = MemShelf::make(rt.alloc(), &[], &[], &[1])?;
     let first = write_trace(rt.alloc(), &mut shelf, "t", &Config::usual(), &history);
-    assert_eq!(rt; first, Err(ShelfFault::Failed));
+    same(&rt, first, Err(ShelfFault::Failed));
     write_trace(rt.alloc(), &mut shelf, "t", &Config::usual(), &history)?;
-    assert_eq!(rt; shelf.contents("t").len(), 22);
+    same(&rt, shelf.contents("t").len(), 22);
     Ok(())
 }

@@ -3,6 +3,7 @@
 ghost use Rattle.std.specs.Prelude.{◌≡◌, ◌+◌, ◌<◌, ◌≤◌, [], length, OnOk};
 
 use self::Row::{Branch, Jump};
+use crate::asserts::{same, same_at};
 use el_base::NoMemory;
 use rv_asm::*;
 use rv_word::Test::{Eq, Ge, Geu, Lt, Ltu, Ne};
@@ -203,14 +204,14 @@ fn words_agree_with_the_assembler(rt: HostRuntime) -> Result<(), Fail> {
     let mut asm = Asm::make(rt.alloc())?;
     put_all(&mut asm)?;
     let words = asm.finish()?;
-    assert_eq!(rt; words.len(), 11_028);
+    same(&rt, words.len(), 11_028);
     let mut written = words.iter().filter(|word| **word != NOP);
     for rows in [AT_L0, AT_L1, AT_L2, AT_L3] {
         for (word, _) in rows {
-            assert_eq!(rt; written.next().copied(), Some(word), "for {word:#010x}");
+            same_at(&rt, word, written.next().copied(), Some(word));
         }
     }
-    assert_eq!(rt; written.next(), None);
+    same(&rt, written.next(), None);
     Ok(())
 }
 
@@ -251,9 +252,9 @@ fn forward_offsets_reach_so_far(rt: HostRuntime) -> Result<(), Fail> {
     // beq x5,x6,.+4092 and jal x1,.+1048572
     for (jumps, most, word) in [(false, 1_022, 0x7e62_8ee3), (true, 262_142, 0x7fdf_f0ef)] {
         let words = over(rt.alloc(), jumps, most)?;
-        assert_eq!(rt; words.first().copied(), Some(word));
+        same(&rt, words.first().copied(), Some(word));
         let far = over(rt.alloc(), jumps, most + 1);
-        assert_eq!(rt; far.err(), Some(AsmFault::Far { place: 0 }));
+        same(&rt, far.err(), Some(AsmFault::Far { place: 0 }));
     }
     Ok(())
 }
@@ -263,9 +264,9 @@ fn backward_offsets_reach_so_far(rt: HostRuntime) -> Result<(), Fail> {
     // beq x5,x6,.-4096 and jal x1,.-1048576
     for (jumps, most, word) in [(false, 1_024, 0x8062_8063), (true, 262_144, 0x8000_00ef)] {
         let words = back(rt.alloc(), jumps, most)?;
-        assert_eq!(rt; words.last().copied(), Some(word));
+        same(&rt, words.last().copied(), Some(word));
         let far = back(rt.alloc(), jumps, most + 1);
-        assert_eq!(rt; far.err(), Some(AsmFault::Far { place: most + 1 }));
+        same(&rt, far.err(), Some(AsmFault::Far { place: most + 1 }));
     }
     Ok(())
 }
@@ -275,7 +276,11 @@ fn labels_without_a_place_are_told_first(rt: HostRuntime) -> Result<(), Fail> {
     let mut asm = Asm::make(rt.alloc())?;
     let only = asm.label()?;
     asm.jump(x(0), only)?;
-    assert_eq!(rt; asm.finish().err(), Some(AsmFault::Unplaced { label: 0 }));
+    same(
+        &rt,
+        asm.finish().err(),
+        Some(AsmFault::Unplaced { label: 0 }),
+    );
 
     // the second of four labels is never used, and the branch to the first is too far
     let mut asm = Asm::make(rt.alloc())?;
@@ -288,7 +293,11 @@ fn labels_without_a_place_are_told_first(rt: HostRuntime) -> Result<(), Fail> {
     asm.branch(Ne, x(1), x(2), first)?;
     asm.jump(x(0), fourth)?;
     asm.jump(x(0), third)?;
-    assert_eq!(rt; asm.finish().err(), Some(AsmFault::Unplaced { label: 2 }));
+    same(
+        &rt,
+        asm.finish().err(),
+        Some(AsmFault::Unplaced { label: 2 }),
+    );
     Ok(())
 }
 
@@ -307,6 +316,6 @@ fn a_label_that_is_not_used_needs_no_place(rt: HostRuntime) -> Result<(), Fail> 
     })?;
     let words = asm.finish()?;
     let wanted = [0x0000_0073, 0x0ff0_000f, 0x02c5_8533];
-    assert_eq!(rt; words.as_slice(), wanted.as_slice());
+    same(&rt, words.as_slice(), wanted.as_slice());
     Ok(())
 }

@@ -1,5 +1,6 @@
 //! Words from the assembler `riscv64-unknown-elf-as -march=rv32ima` of GNU binutils 2.40, each with
 //! what its disassembler reads in it.
+use crate::asserts::{same, same_at};
 use rv_word::{
     Alu, AmoOp, Insn, LoadWidth, Reg, StoreWidth, Test, decode, decode_encoded, encode,
     encode_decoded,
@@ -16,11 +17,7 @@ fn x(number: u8) -> Reg {
 fn agree(rt: &impl Abort, word: u32, insn: Insn) {
     let valid = insn.is_valid();
     assert!(rt; valid, "at {word:#010x}");
-    assert_eq!(rt;
-        (decode(word), encode(insn)),
-        (Some(insn), word),
-        "at {word:#010x}"
-    );
+    same_at(rt, word, (decode(word), encode(insn)), (Some(insn), word));
 }
 
 #[test]
@@ -414,10 +411,11 @@ fn fences(rt: HostRuntime) {
         0x0100_000f,
         0xffff_8f8f,
     ] {
-        assert_eq!(rt;
+        same_at(
+            &rt,
+            word,
             (decode(word), encode_decoded(word)),
             (Some(Insn::Fence), Some(0x0ff0_000f)),
-            "at {word:#010x}"
         );
     }
 }
@@ -483,10 +481,11 @@ const NO_INSTRUCTION: &[(u32, &str)] = &[
 #[test]
 fn no_instruction(rt: HostRuntime) {
     for &(word, what) in NO_INSTRUCTION {
-        assert_eq!(rt;
+        same_at(
+            &rt,
+            what,
             (decode(word), encode_decoded(word)),
             (None, None),
-            "at {what}"
         );
     }
 }
@@ -500,7 +499,7 @@ fn number_of(reg: Option<Reg>) -> Option<u8> {
 fn registers(rt: HostRuntime) {
     for (number, found) in [(0, true), (1, true), (31, true), (32, false), (255, false)] {
         let wanted = if found { Some(number) } else { None };
-        assert_eq!(rt; number_of(Reg::new(number)), wanted, "at {number}");
+        same_at(&rt, number, number_of(Reg::new(number)), wanted);
     }
 }
 
@@ -515,16 +514,17 @@ fn round_trip(rt: HostRuntime) {
         rl: false,
     };
     assert!(rt; insn.is_valid());
-    assert_eq!(rt;
+    same(
+        &rt,
         (decode_encoded(insn), encode_decoded(0x00a5_a5af)),
-        (Some(insn), Some(0x00a5_a5af))
+        (Some(insn), Some(0x00a5_a5af)),
     );
 }
 
 /// Immediates just inside and just outside their forms.
 /// Whether the instruction is valid is as said.
 fn judge(rt: &impl Abort, insn: Insn, valid: bool) {
-    assert_eq!(rt; insn.is_valid(), valid, "{insn:?}");
+    same_at(rt, insn, insn.is_valid(), valid);
 }
 
 #[test]

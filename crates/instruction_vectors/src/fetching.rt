@@ -1,6 +1,7 @@
 //! Words are those of GNU as, and actions are worked out by hand from the RISC-V unprivileged manual. Each address is
 //! fetched twice, so the second time its instruction may have been kept.
 
+use crate::asserts::{same, same_at};
 use crate::flat::{ENTRY, LIMIT, file_of};
 use elf_image::load;
 use fetch::Fetch;
@@ -77,9 +78,9 @@ fn what_was_kept_acts_on_the_registers_of_now(rt: HostRuntime) -> Result<(), Fai
         (ENTRY, 1, sum(2)),
     ] {
         let action = fetched(&mut fetch, pc, x5);
-        assert_eq!(rt; action, want, "at {pc:#x}");
+        same_at(&rt, pc, action, want);
     }
-    assert_eq!(rt; fetch.code().code_word(FAR), Some(0xff9f_f0ef));
+    same(&rt, fetch.code().code_word(FAR), Some(0xff9f_f0ef));
     Ok(())
 }
 
@@ -95,7 +96,7 @@ fn what_is_no_instruction_traps_each_time(rt: HostRuntime) -> Result<(), Fail> {
         (0xffff_fffc, 1),
     ] {
         let action = fetched(&mut fetch, pc, 0);
-        assert_eq!(rt; action, Action::Trap { cause }, "at {pc:#x}");
+        same_at(&rt, pc, action, Action::Trap { cause });
     }
     Ok(())
 }

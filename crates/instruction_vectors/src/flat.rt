@@ -1,6 +1,7 @@
 //! Programs are the words that GNU as makes of the instructions beside them; what they leave behind
 //! is worked out by hand from the RISC-V unprivileged manual.
 
+use crate::asserts::{same, same_at};
 use el_base::HartId;
 use elf_image::load;
 use rv_alu::{HartStatus, HartView};
@@ -23,18 +24,26 @@ pub(crate) const ENTRY: u32 = 0x10054;
 /// The most bytes of a file.
 pub(crate) const LIMIT: usize = 33_554_432;
 
-/// The file of a program that begins with the first of these instructions: the headers of `HELLO` with the length of
-/// this file, in one segment at 0x10000 that is to be read, written and executed.
+/// The most instructions of a program.
+const MOST_WORDS: usize = 2_000;
+
+/// The headers of `HELLO` for a file of this length, in one segment at 0x10000 that is to be read, written and executed.
+fn headers_of(len: u32) -> [u8; 84] {
+    let mut bytes = [0; 84];
+    bytes.copy_from_slice(&HELLO[..84]);
+    bytes[68..72].copy_from_slice(&len.to_le_bytes());
+    bytes[72..76].copy_from_slice(&len.to_le_bytes());
+    bytes[76] = 7;
+    bytes
+}
+
+/// The file of a program that begins with the first of these instructions.
 pub(crate) fn file_of(rt: &impl Abort, alloc: Global, code: &[u32]) -> Result<Vec<u8>, AllocError> {
-    let mut file = HELLO[..84].to_vec(alloc)?;
-    file[76] = 7;
+    assert!(rt; code.len() <= MOST_WORDS);
+    let mut file = headers_of((84 + 4 * code.len()) as u32).to_vec(alloc)?;
     for word in code {
         file.extend_from_slice(&word.to_le_bytes())?;
     }
-    assert!(rt; (84..LIMIT).contains(&file.len()));
-    let len = (file.len() as u32).to_le_bytes();
-    file[68..72].copy_from_slice(&len);
-    file[72..76].copy_from_slice(&len);
     Ok(file)
 }
 
@@ -60,7 +69,7 @@ fn go(rt: &impl Abort, flat: &mut Flat, number: u8, count: usize) {
 fn seen(rt: &impl Abort, flat: &Flat, number: u8) -> HartView {
     let hart = HartId::new(number).expect(rt, "a hart");
     assert!(rt; usize::from(hart.number) < flat.harts());
-    assert_eq!(rt; flat.hart(hart).status, flat.status(hart));
+    same(rt, flat.hart(hart).status, flat.status(hart));
     flat.hart(hart)
 }
 
@@ -95,18 +104,15 @@ fn first_word(number: u8, end: u32, hart: u8, harts: u8) -> u32 {
 /// A hart is before its first step, in memory that ends here.
 fn starts(rt: &impl Abort, flat: &Flat, hart: u8, harts: u8, end: u32) {
     let view = seen(rt, flat, hart);
-    assert_eq!(rt;
+    same_at(
+        rt,
+        hart,
         (view.pc, view.reserved, view.status),
         (ENTRY, None, HartStatus::Running),
-        "hart {hart}"
     );
     for number in 0..32 {
         let wanted = first_word(number, end, hart, harts);
-        assert_eq!(rt;
-            word_in(rt, &view, number),
-            wanted,
-            "x{number} of hart {hart}"
-        );
+        same_at(rt, (number, hart), word_in(rt, &view, number), wanted);
     }
 }
 
@@ -116,9 +122,9 @@ fn harts_start_at_the_entry_with_their_own_stacks(rt: HostRuntime) -> Result<(),
         // addi x0,x0,0
         let flat = flat_of(&rt, rt.alloc(), &[0x0000_0013], harts)?;
         let sizes = (flat.harts(), flat.output().len());
-        assert_eq!(rt; sizes, (usize::from(harts), 0));
+        same(&rt, sizes, (usize::from(harts), 0));
         for (address, byte) in bytes_of(end) {
-            assert_eq!(rt; flat.byte(address), byte, "at {address:#x}");
+            same_at(&rt, address, flat.byte(address), byte);
         }
         for hart in 0..harts {
             starts(&rt, &flat, hart, harts, end);
@@ -138,12 +144,13 @@ fn a_program_writes_and_exits(rt: HostRuntime) -> Result<(), Fail> {
     let mut flat = flat_of(&rt, rt.alloc(), &code, 1)?;
     go(&rt, &mut flat, 0, 8);
     let before = seen(&rt, &flat, 0).status;
-    assert_eq!(rt; flat.output(), b"A\n".as_slice());
+    same(&rt, flat.output(), b"A\n".as_slice());
     go(&rt, &mut flat, 0, 1);
     let after = seen(&rt, &flat, 0).status;
-    assert_eq!(rt;
+    same(
+        &rt,
         (before, after),
-        (HartStatus::Running, HartStatus::Exited { code: 0 })
+        (HartStatus::Running, HartStatus::Exited { code: 0 }),
     );
     Ok(())
 }

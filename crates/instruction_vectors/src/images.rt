@@ -1,3 +1,4 @@
+use crate::asserts::{same, same_at};
 use el_base::{FileFault, FormatFault, Numbered};
 use elf_image::*;
 use std::alloc::{AllocError, Global};
@@ -9,34 +10,21 @@ use worked_files::HELLO;
 const LIMIT: usize = IMAGE_FILE_LIMIT as usize;
 
 /// The image, or the fault.
-fn loaded(
-    rt: &impl Abort,
-    alloc: Global,
-    file: &[u8],
-    harts: u8,
-) -> Result<Result<Image, FileFault>, AllocError> {
+fn loaded(rt: &impl Abort, alloc: Global, file: &[u8], harts: u8) -> Result<Image, ImageFault> {
     assert!(rt; file.len() <= LIMIT);
     assert!(rt; (1..=8).contains(&harts));
-    match load(alloc, file, harts) {
-        Ok(image) => Ok(Ok(image)),
-        Err(ImageFault::Bad { number, place }) => Ok(Err(FileFault { number, place })),
-        Err(ImageFault::NoMemory) => Err(AllocError),
-    }
+    load(alloc, file, harts)
 }
 
 /// The fault, or none.
-fn judged(
-    rt: &impl Abort,
-    alloc: Global,
-    file: &[u8],
-    harts: u8,
-) -> Result<Option<FileFault>, AllocError> {
-    Ok(loaded(rt, alloc, file, harts)?.err())
+fn judged(rt: &impl Abort, alloc: Global, file: &[u8], harts: u8) -> Option<ImageFault> {
+    loaded(rt, alloc, file, harts).err()
 }
 
 /// The fault of a kind at a place, or none.
-fn bad(fault: Option<(FaultKind, u32)>) -> Option<FileFault> {
-    fault.map(|(kind, place)| kind.at(place))
+fn bad(fault: Option<(FaultKind, u32)>) -> Option<ImageFault> {
+    let (kind, place) = fault?;
+    Some(kind.at(place).into())
 }
 
 /// The file with bytes written over it, each with its place.
@@ -50,6 +38,23 @@ fn changed(edits: &[(usize, u8)]) -> [u8; 122] {
     file
 }
 
+/// The first header of a file with this entry and so many program headers.
+fn first_header(entry: u32, headers: u8) -> [u8; 52] {
+    let mut bytes = [0; 52];
+    bytes.copy_from_slice(&HELLO[..52]);
+    bytes[24..28].copy_from_slice(&entry.to_le_bytes());
+    bytes[44] = headers;
+    bytes
+}
+
+/// Puts words behind a file.
+fn put(file: &mut Vec<u8>, words: &[u32]) -> Result<(), AllocError> {
+    for word in words {
+        file.extend_from_slice(&word.to_le_bytes())?;
+    }
+    Ok(())
+}
+
 /// A file of these program headers, each as p_type, p_offset, p_vaddr, p_filesz, p_memsz and p_flags,
 /// with nothing but `0xee` behind them, up to a length.
 fn file_of(
@@ -58,17 +63,12 @@ fn file_of(
     headers: &[[u32; 6]],
     len: usize,
 ) -> Result<Vec<u8>, AllocError> {
-    let mut file = HELLO[..24].to_vec(alloc)?;
-    file.extend_from_slice(&entry.to_le_bytes())?;
-    file.extend_from_slice(&HELLO[28..44])?;
-    file.push(headers.len().to_le_bytes()[0])?;
-    file.extend_from_slice(&HELLO[45..52])?;
-    for [p_type, p_offset, p_vaddr, p_filesz, p_memsz, p_flags] in headers {
-        for field in [
-            p_type, p_offset, p_vaddr, p_vaddr, p_filesz, p_memsz, p_flags, &0,
-        ] {
-            file.extend_from_slice(&field.to_le_bytes())?;
-        }
+    let mut file = first_header(entry, headers.len().to_le_bytes()[0]).to_vec(alloc)?;
+    for &[p_type, p_offset, p_vaddr, p_filesz, p_memsz, p_flags] in headers {
+        let header = [
+            p_type, p_offset, p_vaddr, p_vaddr, p_filesz, p_memsz, p_flags, 0,
+        ];
+        put(&mut file, &header)?;
     }
     file.resize(len, 0xee)?;
     Ok(file)
@@ -97,7 +97,7 @@ fn each_number_has_its_name(rt: HostRuntime) {
         (16, Some("Empty")),
         (17, None),
     ] {
-        assert_eq!(rt; FaultKind::name_of_number(number), name, "{number}");
+        same_at(&rt, number, FaultKind::name_of_number(number), name);
     }
 }
 
@@ -114,96 +114,97 @@ fn an_error_says_the_number_and_the_place(rt: HostRuntime) -> Result<(), Fail> {
         ),
         (ImageFault::NoMemory, "no memory for the image"),
     ] {
-        assert_eq!(rt; format!(in rt.alloc(); "{fault}")?.as_str(), text);
+        same(&rt, format!(in rt.alloc(); "{fault}")?.as_str(), text);
     }
     Ok(())
 }
 
 #[test]
-fn cut_files_are_refused(rt: HostRuntime) -> Result<(), Fail> {
+fn cut_files_are_refused(rt: HostRuntime) {
     for len in 0..HELLO.len() {
         let want = match len {
-            0..52 => FaultKind::Short.at(len as u32),
-            52..84 => FaultKind::Table.at(28),
-            _ => FaultKind::Segment.at(56),
+            0..52 => (FaultKind::Short, len as u32),
+            52..84 => (FaultKind::Table, 28),
+            _ => (FaultKind::Segment, 56),
         };
-        let found = judged(&rt, rt.alloc(), &HELLO[..len], 1)?;
-        assert_eq!(rt; found, Some(want), "cut to {len}");
+        let found = judged(&rt, rt.alloc(), &HELLO[..len], 1);
+        same_at(&rt, len, found, bad(Some(want)));
     }
-    Ok(())
 }
 
+/// Places and bytes that are written over the file's, and its fault then.
+const CHANGES: &[(&[(usize, u8)], Option<(FaultKind, u32)>)] = &[
+    (&[], None),
+    (&[(0, 0)], Some((FaultKind::Magic, 0))),
+    (&[(3, 0x47), (1, 0)], Some((FaultKind::Magic, 1))),
+    (&[(4, 2)], Some((FaultKind::Class, 4))),
+    (&[(5, 2)], Some((FaultKind::ByteOrder, 5))),
+    (&[(6, 2), (20, 2)], Some((FaultKind::Version, 6))),
+    (&[(20, 2)], Some((FaultKind::Version, 20))),
+    (&[(16, 3), (36, 1)], Some((FaultKind::FileKind, 16))),
+    (&[(18, 0x28)], Some((FaultKind::Machine, 18))),
+    (&[(36, 1), (40, 64)], Some((FaultKind::Flags, 36))),
+    (&[(36, 8)], Some((FaultKind::Flags, 36))),
+    (&[(36, 0x10)], None),
+    (&[(40, 64)], Some((FaultKind::Table, 40))),
+    (&[(42, 56)], Some((FaultKind::Table, 42))),
+    (&[(44, 0xff), (45, 0xff)], Some((FaultKind::Table, 44))),
+    (&[(44, 65)], Some((FaultKind::Table, 44))),
+    (&[(44, 64)], Some((FaultKind::Table, 28))),
+    (&[(44, 0), (42, 0)], Some((FaultKind::Empty, 44))),
+    (
+        &[(28, 0xff), (29, 0xff), (30, 0xff), (31, 0xff)],
+        Some((FaultKind::Table, 28)),
+    ),
+    (&[(52, 2)], Some((FaultKind::Dynamic, 52))),
+    (&[(52, 3)], Some((FaultKind::Dynamic, 52))),
+    (&[(52, 0)], Some((FaultKind::Empty, 44))),
+    (
+        &[
+            (60, 0),
+            (61, 0xff),
+            (62, 0xff),
+            (63, 0xff),
+            (72, 0),
+            (73, 2),
+        ],
+        Some((FaultKind::TooHigh, 28)),
+    ),
+    (&[(72, 0x79)], Some((FaultKind::Segment, 68))),
+    (
+        &[(59, 0xff), (58, 0xff), (57, 0xff), (56, 0xff)],
+        Some((FaultKind::Segment, 56)),
+    ),
+    (&[(76, 4)], Some((FaultKind::Entry, 24))),
+    (&[(24, 0x56)], Some((FaultKind::Entry, 24))),
+    (&[(24, 0x78)], Some((FaultKind::Entry, 24))),
+    (&[(76, 7)], None),
+];
+
 #[test]
-fn changed_files_have_their_first_fault(rt: HostRuntime) -> Result<(), Fail> {
-    let changes: [(&[(usize, u8)], Option<(FaultKind, u32)>); 29] = [
-        (&[], None),
-        (&[(0, 0)], Some((FaultKind::Magic, 0))),
-        (&[(3, 0x47), (1, 0)], Some((FaultKind::Magic, 1))),
-        (&[(4, 2)], Some((FaultKind::Class, 4))),
-        (&[(5, 2)], Some((FaultKind::ByteOrder, 5))),
-        (&[(6, 2), (20, 2)], Some((FaultKind::Version, 6))),
-        (&[(20, 2)], Some((FaultKind::Version, 20))),
-        (&[(16, 3), (36, 1)], Some((FaultKind::FileKind, 16))),
-        (&[(18, 0x28)], Some((FaultKind::Machine, 18))),
-        (&[(36, 1), (40, 64)], Some((FaultKind::Flags, 36))),
-        (&[(36, 8)], Some((FaultKind::Flags, 36))),
-        (&[(36, 0x10)], None),
-        (&[(40, 64)], Some((FaultKind::Table, 40))),
-        (&[(42, 56)], Some((FaultKind::Table, 42))),
-        (&[(44, 0xff), (45, 0xff)], Some((FaultKind::Table, 44))),
-        (&[(44, 65)], Some((FaultKind::Table, 44))),
-        (&[(44, 64)], Some((FaultKind::Table, 28))),
-        (&[(44, 0), (42, 0)], Some((FaultKind::Empty, 44))),
-        (
-            &[(28, 0xff), (29, 0xff), (30, 0xff), (31, 0xff)],
-            Some((FaultKind::Table, 28)),
-        ),
-        (&[(52, 2)], Some((FaultKind::Dynamic, 52))),
-        (&[(52, 3)], Some((FaultKind::Dynamic, 52))),
-        (&[(52, 0)], Some((FaultKind::Empty, 44))),
-        (
-            &[
-                (60, 0),
-                (61, 0xff),
-                (62, 0xff),
-                (63, 0xff),
-                (72, 0),
-                (73, 2),
-            ],
-            Some((FaultKind::TooHigh, 28)),
-        ),
-        (&[(72, 0x79)], Some((FaultKind::Segment, 68))),
-        (
-            &[(59, 0xff), (58, 0xff), (57, 0xff), (56, 0xff)],
-            Some((FaultKind::Segment, 56)),
-        ),
-        (&[(76, 4)], Some((FaultKind::Entry, 24))),
-        (&[(24, 0x56)], Some((FaultKind::Entry, 24))),
-        (&[(24, 0x78)], Some((FaultKind::Entry, 24))),
-        (&[(76, 7)], None),
-    ];
-    for (edits, want) in changes {
-        let found = judged(&rt, rt.alloc(), &changed(edits), 1)?;
-        assert_eq!(rt; found, bad(want), "{edits:?}");
+fn changed_files_have_their_first_fault(rt: HostRuntime) {
+    for &(edits, want) in CHANGES {
+        let found = judged(&rt, rt.alloc(), &changed(edits), 1);
+        same_at(&rt, edits, found, bad(want));
     }
-    Ok(())
 }
 
 /// The image of the file, for one hart.
 fn image(rt: &impl Abort, alloc: Global) -> Result<Image, Fail> {
-    Ok(loaded(rt, alloc, &HELLO, 1)?.ok().ok_or("refused")?)
+    Ok(loaded(rt, alloc, &HELLO, 1)?)
 }
 
 #[test]
 fn the_file_is_loaded_behind_zeros(rt: HostRuntime) -> Result<(), Fail> {
     let image = image(&rt, rt.alloc())?;
     let bytes = image.bytes();
-    assert_eq!(rt;
+    same(
+        &rt,
         (image.base(), image.entry(), image.harts(), bytes.len()),
-        (0x10000, 0x10054, 1, 0x20080 - 0x10000)
+        (0x10000, 0x10054, 1, 0x20080 - 0x10000),
     );
     let zeros = bytes.iter().skip(HELLO.len()).all(|byte| *byte == 0);
-    assert_eq!(rt; (bytes.starts_with(&HELLO), zeros), (true, true));
+    same(&rt, (bytes.starts_with(&HELLO), zeros), (true, true));
     Ok(())
 }
 
@@ -223,18 +224,19 @@ const CODE_WORDS: &[(u32, Option<u32>)] = &[
 fn words_of_code_are_read_where_all_of_them_is_code(rt: HostRuntime) -> Result<(), Fail> {
     let image = image(&rt, rt.alloc())?;
     for &(pc, word) in CODE_WORDS {
-        assert_eq!(rt; image.code_word(pc), word, "at {pc:#x}");
+        same_at(&rt, pc, image.code_word(pc), word);
     }
     Ok(())
 }
 
 /// Code has one segment, the whole file.
 fn is_the_file(rt: &impl Abort, code: &Code) {
-    assert_eq!(rt; code.segments().len(), 1);
+    same(rt, code.segments().len(), 1);
     for segment in code.segments() {
-        assert_eq!(rt;
+        same(
+            rt,
             (segment.start(), segment.bytes()),
-            (0x10000, HELLO.as_slice())
+            (0x10000, HELLO.as_slice()),
         );
     }
 }
@@ -261,11 +263,12 @@ fn a_linkers_usual_image_is_taken(rt: HostRuntime) -> Result<(), Fail> {
         [0x6474_e551, 0, 0, 0, 0, 6],
     ];
     let file = file_of(rt.alloc(), 0x100b4, &headers, 0x70a)?;
-    let image = loaded(&rt, rt.alloc(), &file, 8)?.ok().ok_or("refused")?;
+    let image = loaded(&rt, rt.alloc(), &file, 8)?;
     let code = image.code_word(0x116d4);
-    assert_eq!(rt;
+    same(
+        &rt,
         (image.base(), image.bytes().len(), code),
-        (0x10000, 0x91840 - 0x10000, None)
+        (0x10000, 0x91840 - 0x10000, None),
     );
     for (address, byte) in [
         (0x10000, 0x7f),
@@ -278,55 +281,57 @@ fn a_linkers_usual_image_is_taken(rt: HostRuntime) -> Result<(), Fail> {
         (0x9183f, 0),
     ] {
         let found = image.bytes().get(address - 0x10000).copied();
-        assert_eq!(rt; found, Some(byte), "at {address:#x}");
+        same_at(&rt, address, found, Some(byte));
     }
     Ok(())
 }
 
+/// Two program headers behind that of the code, and the fault of the three.
+const SECOND_AND_THIRD: &[([u32; 6], [u32; 6], Option<(FaultKind, u32)>)] = &[
+    // adjacent, in either order
+    (
+        [1, 0x94, 0x10008, 4, 8, 6],
+        [1, 0x94, 0xfff0, 4, 16, 6],
+        None,
+    ),
+    // one byte shared, with the first and with the second
+    (
+        [1, 0x94, 0x10007, 4, 8, 6],
+        [0, 0, 0, 0, 0, 0],
+        Some((FaultKind::Overlap, 84)),
+    ),
+    (
+        [1, 0x94, 0x10010, 4, 8, 6],
+        [1, 0x94, 0xfff8, 4, 9, 6],
+        Some((FaultKind::Overlap, 116)),
+    ),
+    // the same bytes twice
+    (
+        [1, 0x94, 0x10008, 4, 8, 6],
+        [1, 0x94, 0x10008, 4, 8, 6],
+        Some((FaultKind::Overlap, 116)),
+    ),
+    // a header without memory is no segment, and one without bytes in the file may name any place
+    (
+        [1, 0x94, 0x10000, 0, 0, 6],
+        [1, 0xffff_ffff, 0x10008, 0, 8, 6],
+        None,
+    ),
+    // a sum that 32 bits do not hold
+    (
+        [1, 0xffff_fffc, 0x10008, 8, 8, 6],
+        [0, 0, 0, 0, 0, 0],
+        Some((FaultKind::Segment, 88)),
+    ),
+];
+
 #[test]
 fn segments_share_no_byte(rt: HostRuntime) -> Result<(), Fail> {
     let code = [1, 0x94, 0x10000, 8, 8, 5];
-    let rows: [([u32; 6], [u32; 6], Option<(FaultKind, u32)>); 6] = [
-        // adjacent, in either order
-        (
-            [1, 0x94, 0x10008, 4, 8, 6],
-            [1, 0x94, 0xfff0, 4, 16, 6],
-            None,
-        ),
-        // one byte shared, with the first and with the second
-        (
-            [1, 0x94, 0x10007, 4, 8, 6],
-            [0, 0, 0, 0, 0, 0],
-            Some((FaultKind::Overlap, 84)),
-        ),
-        (
-            [1, 0x94, 0x10010, 4, 8, 6],
-            [1, 0x94, 0xfff8, 4, 9, 6],
-            Some((FaultKind::Overlap, 116)),
-        ),
-        // the same bytes twice
-        (
-            [1, 0x94, 0x10008, 4, 8, 6],
-            [1, 0x94, 0x10008, 4, 8, 6],
-            Some((FaultKind::Overlap, 116)),
-        ),
-        // a header without memory is no segment, and one without bytes in the file may name any place
-        (
-            [1, 0x94, 0x10000, 0, 0, 6],
-            [1, 0xffff_ffff, 0x10008, 0, 8, 6],
-            None,
-        ),
-        // a sum that 32 bits do not hold
-        (
-            [1, 0xffff_fffc, 0x10008, 8, 8, 6],
-            [0, 0, 0, 0, 0, 0],
-            Some((FaultKind::Segment, 88)),
-        ),
-    ];
-    for (second, third, want) in rows {
+    for &(second, third, want) in SECOND_AND_THIRD {
         let file = file_of(rt.alloc(), 0x10000, &[code, second, third], 0x9c)?;
-        let found = judged(&rt, rt.alloc(), &file, 1)?;
-        assert_eq!(rt; found, bad(want), "{second:?} {third:?}");
+        let found = judged(&rt, rt.alloc(), &file, 1);
+        same_at(&rt, (second, third), found, bad(want));
     }
     Ok(())
 }
@@ -335,7 +340,7 @@ fn segments_share_no_byte(rt: HostRuntime) -> Result<(), Fail> {
 fn a_word_lies_in_one_segment(rt: HostRuntime) -> Result<(), Fail> {
     let headers = [[1, 0x74, 0x10000, 6, 6, 5], [1, 0x74, 0x10006, 6, 6, 5]];
     let file = file_of(rt.alloc(), 0x10000, &headers, 0x7a)?;
-    let image = loaded(&rt, rt.alloc(), &file, 1)?.ok().ok_or("refused")?;
+    let image = loaded(&rt, rt.alloc(), &file, 1)?;
     let word = Some(0xeeee_eeee);
     for (pc, found) in [
         (0x10000, word),
@@ -346,27 +351,30 @@ fn a_word_lies_in_one_segment(rt: HostRuntime) -> Result<(), Fail> {
         (0x10008, word),
         (0x10009, None),
     ] {
-        assert_eq!(rt; image.code_word(pc), found, "at {pc:#x}");
+        same_at(&rt, pc, image.code_word(pc), found);
     }
     Ok(())
 }
 
+/// How many bytes of memory a file has, or the fault.
+fn measured(rt: &impl Abort, alloc: Global, file: &[u8], harts: u8) -> Result<usize, ImageFault> {
+    Ok(loaded(rt, alloc, file, harts)?.bytes().len())
+}
+
 #[test]
 fn memory_has_at_most_16_mib(rt: HostRuntime) -> Result<(), Fail> {
+    let (most, wide) = (16_777_216, FaultKind::TooWide.at(28));
     for (memory, harts, want) in [
-        (16_711_680, 1, None),
-        (16_711_681, 1, Some((FaultKind::TooWide, 28))),
-        (16_252_928, 8, None),
-        (16_252_929, 8, Some((FaultKind::TooWide, 28))),
-        (u32::MAX, 1, Some((FaultKind::TooWide, 28))),
+        (16_711_680, 1, Ok(most)),
+        (16_711_681, 1, Err(wide.into())),
+        (16_252_928, 8, Ok(most)),
+        (16_252_929, 8, Err(wide.into())),
+        (u32::MAX, 1, Err(wide.into())),
     ] {
         let headers = [[1, 0x54, 0x8000_0000, 4, memory, 5]];
         let file = file_of(rt.alloc(), 0x8000_0000, &headers, 0x58)?;
-        let image = loaded(&rt, rt.alloc(), &file, harts)?;
-        if let Ok(image) = &image {
-            assert_eq!(rt; image.bytes().len(), 16_777_216);
-        }
-        assert_eq!(rt; image.err(), bad(want), "{memory} bytes, {harts} harts");
+        let found = measured(&rt, rt.alloc(), &file, harts);
+        same_at(&rt, (memory, harts), found, want);
     }
     Ok(())
 }
@@ -409,17 +417,19 @@ fn a_built_program_is_written_and_loaded(rt: HostRuntime) -> Result<(), Fail> {
         entry: 0x10000,
     };
     let file = write_image(rt.alloc(), &built).ok().ok_or("no memory")?;
-    assert_eq!(rt; file.as_slice(), BUILT_FILE.as_slice());
-    let image = loaded(&rt, rt.alloc(), &file, 8)?.ok().ok_or("refused")?;
-    assert_eq!(rt;
+    same(&rt, file.as_slice(), BUILT_FILE.as_slice());
+    let image = loaded(&rt, rt.alloc(), &file, 8)?;
+    same(
+        &rt,
         (image.base(), image.entry(), image.bytes().len()),
-        (0x10000, 0x10000, 0x91040 - 0x10000)
+        (0x10000, 0x10000, 0x91040 - 0x10000),
     );
     let words = (image.code_word(0x10020), image.code_word(0x11000));
     let data = image.bytes().get(0x1000..0x1003);
-    assert_eq!(rt;
+    same(
+        &rt,
         (words, data),
-        ((Some(0x0000_0073), None), Some(b"A\n\0".as_slice()))
+        ((Some(0x0000_0073), None), Some(b"A\n\0".as_slice())),
     );
     Ok(())
 }

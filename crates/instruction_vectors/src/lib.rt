@@ -9,6 +9,8 @@ mod alu;
 #[cfg(test)]
 mod assembly;
 #[cfg(test)]
+mod asserts;
+#[cfg(test)]
 mod decoding;
 #[cfg(test)]
 mod fetching;

@@ -1,5 +1,6 @@
 //! Words at addresses, each with what GNU objdump 2.40 writes (`-b binary -m riscv:rv32 -D`), a space in place of its tab
 //! and without its comments.
+use crate::asserts::same;
 use rv_text::Text;
 use std::alloc::Global;
 use std::process::Abort;
@@ -15,7 +16,7 @@ fn agree(rt: &impl Abort, alloc: Global, rows: &[Row]) -> Result<(), Fail> {
             address: *address,
         }
         .to_string(alloc)?;
-        assert_eq!(rt; written.as_str(), *text);
+        same(rt, written.as_str(), *text);
     }
     Ok(())
 }

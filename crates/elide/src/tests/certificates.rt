@@ -1,4 +1,5 @@
 //! Certificates of runs, and what is found of them.
+use crate::tests::asserts::same;
 use crate::tests::support::{Ending, REPORT, answer, changed, resized};
 use std::test::Fail;
 use worked_files::{CERTIFICATE, HELLO, TRACE};
@@ -49,7 +50,7 @@ const FOUND: &[Found] = &[
 fn a_certificate_is_written_and_judged(rt: HostRuntime) -> Result<(), Fail> {
     let ran = answer(&rt, rt.alloc(), &["run", "a", "--cert", "t"], &HELLO, &[])?;
     assert!(rt; ended(&ran, 0, b"A\n", REPORT.as_bytes()));
-    assert_eq!(rt; ran.written.as_slice(), CERTIFICATE.as_slice());
+    same(&rt, ran.written.as_slice(), CERTIFICATE.as_slice());
     for row in FOUND {
         let certificate = changed(rt.alloc(), &CERTIFICATE, row.place, row.value)?;
         let found = answer(&rt, rt.alloc(), &["check", "a", "t"], &HELLO, &certificate)?;
@@ -79,6 +80,6 @@ fn a_run_goes_on_behind_its_drivers(rt: HostRuntime) -> Result<(), Fail> {
     let words = ["run", "a", "--threads", "4", "--trace", "t"];
     let ran = answer(&rt, rt.alloc(), &words, &HELLO, &[])?;
     assert!(rt; ended(&ran, 0, b"A\n", REPORT.as_bytes()));
-    assert_eq!(rt; ran.written.as_slice(), TRACE.as_slice());
+    same(&rt, ran.written.as_slice(), TRACE.as_slice());
     Ok(())
 }

@@ -1,4 +1,5 @@
 //! Each call of a device fails in turn, in each command.
+use crate::tests::asserts::same_at;
 use crate::tests::support::{REPORT, TIMES, USAGE, changed, strings};
 use el_io::{MemShelf, MemSink, OpenGate};
 use std::alloc::{AllocError, Global};
@@ -368,7 +369,7 @@ fn what_stands_before_a_fault_is_done_and_nothing_behind_it(rt: HostRuntime) -> 
     for command in COMMANDS {
         for device in [Device::Shelf, Device::Out, Device::Err] {
             let wrong = first_wrong(&rt, rt.alloc(), command, device)?;
-            assert_eq!(rt; wrong, None, "{device:?} of {:?}", command.words);
+            same_at(&rt, (device, command.words), wrong, None);
         }
     }
     Ok(())

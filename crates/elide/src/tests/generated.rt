@@ -1,4 +1,5 @@
 //! Images that are generated: what they print, and that they are the same each time.
+use crate::tests::asserts::{same, same_at};
 use crate::tests::support::{Ending, answer};
 use std::alloc::Global;
 use std::sync::Wait;
@@ -40,7 +41,7 @@ fn an_image_is_written_and_its_length_told(rt: HostRuntime) -> Result<(), Fail> 
         let ending = generated(&rt, rt.alloc(), kind, "3")?;
         let line = format!(in rt.alloc(); "wrote {} bytes\n", ending.written.len())?;
         assert!(rt; prints(&ending, ""), "{kind}");
-        assert_eq!(rt; ending.err.as_slice(), line.as_bytes(), "{kind}");
+        same_at(&rt, kind, ending.err.as_slice(), line.as_bytes());
         assert!(rt; ending.written.starts_with(&HELLO[..4]), "{kind}");
     }
     Ok(())
@@ -69,10 +70,11 @@ fn told_on_1_2_4_and_8<R: Threads + Wait + Sync>(
 fn each_hart_adds_100_to_a_counter(rt: HostRuntime) -> Result<(), Fail> {
     for kind in ["counter", "pairs"] {
         let told = told_on_1_2_4_and_8(&rt, rt.alloc(), kind)?;
-        assert_eq!(rt;
+        same_at(
+            &rt,
+            kind,
             told.as_slice(),
             b"00000064\n000000c8\n00000190\n00000320\n".as_slice(),
-            "{kind}"
         );
     }
     Ok(())
@@ -81,9 +83,10 @@ fn each_hart_adds_100_to_a_counter(rt: HostRuntime) -> Result<(), Fail> {
 #[test]
 fn a_bank_keeps_what_it_has(rt: HostRuntime) -> Result<(), Fail> {
     let told = told_on_1_2_4_and_8(&rt, rt.alloc(), "bank")?;
-    assert_eq!(rt;
+    same(
+        &rt,
         told.as_slice(),
-        b"0000fa00\n0000fa00\n0000fa00\n0000fa00\n".as_slice()
+        b"0000fa00\n0000fa00\n0000fa00\n0000fa00\n".as_slice(),
     );
     Ok(())
 }
@@ -91,9 +94,10 @@ fn a_bank_keeps_what_it_has(rt: HostRuntime) -> Result<(), Fail> {
 #[test]
 fn each_hart_adds_200_to_buckets(rt: HostRuntime) -> Result<(), Fail> {
     let told = told_on_1_2_4_and_8(&rt, rt.alloc(), "buckets")?;
-    assert_eq!(rt;
+    same(
+        &rt,
         told.as_slice(),
-        b"000000c8\n00000190\n00000320\n00000640\n".as_slice()
+        b"000000c8\n00000190\n00000320\n00000640\n".as_slice(),
     );
     Ok(())
 }
@@ -101,9 +105,10 @@ fn each_hart_adds_200_to_buckets(rt: HostRuntime) -> Result<(), Fail> {
 #[test]
 fn each_hart_adds_200_under_two_locks(rt: HostRuntime) -> Result<(), Fail> {
     let told = told_on_1_2_4_and_8(&rt, rt.alloc(), "locks")?;
-    assert_eq!(rt;
+    same(
+        &rt,
         told.as_slice(),
-        b"000000c8\n00000190\n00000320\n00000640\n".as_slice()
+        b"000000c8\n00000190\n00000320\n00000640\n".as_slice(),
     );
     Ok(())
 }
@@ -111,9 +116,10 @@ fn each_hart_adds_200_under_two_locks(rt: HostRuntime) -> Result<(), Fail> {
 #[test]
 fn each_hart_adds_400_to_20_words(rt: HostRuntime) -> Result<(), Fail> {
     let told = told_on_1_2_4_and_8(&rt, rt.alloc(), "overflow")?;
-    assert_eq!(rt;
+    same(
+        &rt,
         told.as_slice(),
-        b"00000190\n00000320\n00000640\n00000c80\n".as_slice()
+        b"00000190\n00000320\n00000640\n00000c80\n".as_slice(),
     );
     Ok(())
 }
@@ -159,7 +165,7 @@ fn a_second_run_says_the_same(rt: HostRuntime) -> Result<(), Fail> {
     let second = run_on(&rt, rt.alloc(), &image, "8")?;
     assert!(rt; prints(&first, "0000fa00\n"));
     assert!(rt; prints(&second, "0000fa00\n"));
-    assert_eq!(rt; first.err.as_slice(), second.err.as_slice());
+    same(&rt, first.err.as_slice(), second.err.as_slice());
     Ok(())
 }
 

@@ -1,4 +1,5 @@
 //! An image as linkers make them: code and data in two segments, and headers that are passed over.
+use crate::tests::asserts::same;
 use crate::tests::support::{MISSED_ONE, answer, report_of};
 use std::alloc::{AllocError, Global};
 use std::test::Fail;
@@ -64,14 +65,14 @@ fn each_hart_has_a_stack_of_its_own(rt: HostRuntime) -> Result<(), Fail> {
     for stack in stacks {
         wanted.extend_from_slice(&stack.to_le_bytes())?;
     }
-    assert_eq!(rt; ending.status.number(), 0);
-    assert_eq!(rt; ending.out.as_slice(), wanted.as_slice());
+    same(&rt, ending.status.number(), 0);
+    same(&rt, ending.out.as_slice(), wanted.as_slice());
     let report = report_of(
         rt.alloc(),
         "elide tlr harts 8 events 349",
         &[(10, MISSED_ONE, "exit 0"); 8],
         "serial 80 out 32",
     )?;
-    assert_eq!(rt; ending.err.as_slice(), report.as_bytes());
+    same(&rt, ending.err.as_slice(), report.as_bytes());
     Ok(())
 }

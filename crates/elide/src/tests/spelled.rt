@@ -1,6 +1,7 @@
 //! Traces that spell every outcome, over programs of a few instructions. `tools/spelled_rows.py` writes this file, from
 //! runs that were worked by hand.
 
+use crate::tests::asserts::same_at;
 use crate::tests::support::{answer, image_of};
 use std::test::Fail;
 
@@ -263,8 +264,8 @@ fn every_outcome_is_spelled(rt: HostRuntime) -> Result<(), Fail> {
     for run in RUNS {
         let image = image_of(rt.alloc(), run.code)?;
         let played = answer(&rt, rt.alloc(), &words, &image, run.trace)?;
-        assert_eq!(rt; played.status.number(), 3, "{}", run.what);
-        assert_eq!(rt; played.written.as_slice(), run.trace, "{}", run.what);
+        same_at(&rt, run.what, played.status.number(), 3);
+        same_at(&rt, run.what, played.written.as_slice(), run.trace);
     }
     Ok(())
 }

@@ -1,4 +1,5 @@
 //! Traces that are written, and played again.
+use crate::tests::asserts::{same, same_at};
 use crate::tests::support::{MISSED_ONE, REPORT, TIMES, answer, changed, report_of};
 use std::test::Fail;
 use worked_files::{BARE_TRACE, HELLO, TRACE};
@@ -6,14 +7,14 @@ use worked_files::{BARE_TRACE, HELLO, TRACE};
 #[test]
 fn a_run_writes_its_trace_and_its_replay_is_the_same(rt: HostRuntime) -> Result<(), Fail> {
     let ran = answer(&rt, rt.alloc(), &["run", "a", "--trace", "t"], &HELLO, &[])?;
-    assert_eq!(rt; ran.written.as_slice(), TRACE.as_slice());
+    same(&rt, ran.written.as_slice(), TRACE.as_slice());
     let played = answer(&rt, rt.alloc(), &["replay", "a", "t"], &HELLO, &ran.written)?;
-    assert_eq!(rt; played.status, ran.status);
-    assert_eq!(rt; played.out.as_slice(), ran.out.as_slice());
-    assert_eq!(rt; played.err.as_slice(), ran.err.as_slice());
-    assert_eq!(rt; played.out.as_slice(), b"A\n".as_slice());
-    assert_eq!(rt; played.err.as_slice(), REPORT.as_bytes());
-    assert_eq!(rt; played.written.as_slice(), TRACE.as_slice());
+    same(&rt, played.status, ran.status);
+    same(&rt, played.out.as_slice(), ran.out.as_slice());
+    same(&rt, played.err.as_slice(), ran.err.as_slice());
+    same(&rt, played.out.as_slice(), b"A\n".as_slice());
+    same(&rt, played.err.as_slice(), REPORT.as_bytes());
+    same(&rt, played.written.as_slice(), TRACE.as_slice());
     Ok(())
 }
 
@@ -28,15 +29,16 @@ fn a_replay_of_sections_says_what_the_run_said(rt: HostRuntime) -> Result<(), Fa
             let played = answer(&rt, rt.alloc(), &["replay", "a", "t"], &image, &ran.written)?;
             let report = String::from_utf8_lossy(rt.alloc(), &ran.err)?;
             assert!(rt; !report.contains("began 0 "), "{kind}: {report}");
-            assert_eq!(rt; ran.status.number(), 0, "{kind} {mode}");
-            assert_eq!(rt;
+            same_at(&rt, (kind, mode), ran.status.number(), 0);
+            same_at(
+                &rt,
+                (kind, mode),
                 ran.out.as_slice(),
                 b"00000190\n".as_slice(),
-                "{kind} {mode}"
             );
-            assert_eq!(rt; played.status, ran.status, "{kind} {mode}");
-            assert_eq!(rt; played.out.as_slice(), ran.out.as_slice(), "{kind} {mode}");
-            assert_eq!(rt; played.err.as_slice(), ran.err.as_slice(), "{kind} {mode}");
+            same_at(&rt, (kind, mode), played.status, ran.status);
+            same_at(&rt, (kind, mode), played.out.as_slice(), ran.out.as_slice());
+            same_at(&rt, (kind, mode), played.err.as_slice(), ran.err.as_slice());
         }
     }
     Ok(())
@@ -74,9 +76,12 @@ fn a_replay_ends_where_its_trace_does(rt: HostRuntime) -> Result<(), Fail> {
     for (trace, number, first, hart, last) in rows {
         let report = report_of(rt.alloc(), first, &[hart], last)?;
         let played = answer(&rt, rt.alloc(), &["replay", "a", "t"], &HELLO, trace)?;
-        assert_eq!(rt; played.status.number(), number, "{report}");
-        assert_eq!(rt; played.out.as_slice(), b"A\n".as_slice(), "{report}");
-        assert_eq!(rt; played.err.as_slice(), report.as_bytes());
+        let found = (
+            played.status.number(),
+            played.out.as_slice(),
+            played.err.as_slice(),
+        );
+        same(&rt, found, (number, b"A\n".as_slice(), report.as_bytes()));
     }
     Ok(())
 }
@@ -87,10 +92,10 @@ fn a_replay_writes_what_came_of_the_events(rt: HostRuntime) -> Result<(), Fail> 
     let words = ["replay", "a", "t", "--trace", "t"];
     for trace in [BARE_TRACE.as_slice(), TRACE.as_slice()] {
         let played = answer(&rt, rt.alloc(), &words, &HELLO, trace)?;
-        assert_eq!(rt; played.status.number(), 0);
-        assert_eq!(rt; played.out.as_slice(), b"A\n".as_slice());
-        assert_eq!(rt; played.err.as_slice(), REPORT.as_bytes());
-        assert_eq!(rt; played.written.as_slice(), TRACE.as_slice());
+        same(&rt, played.status.number(), 0);
+        same(&rt, played.out.as_slice(), b"A\n".as_slice());
+        same(&rt, played.err.as_slice(), REPORT.as_bytes());
+        same(&rt, played.written.as_slice(), TRACE.as_slice());
     }
     Ok(())
 }
@@ -141,8 +146,8 @@ fn times_stand_behind_the_report(rt: HostRuntime) -> Result<(), Fail> {
     let text = format!(in rt.alloc(); "{REPORT}{TIMES}")?;
     let words = ["run", "a", "--times", "--trace", "t"];
     let ran = answer(&rt, rt.alloc(), &words, &HELLO, &[])?;
-    assert_eq!(rt; ran.status.number(), 0);
-    assert_eq!(rt; ran.err.as_slice(), text.as_bytes());
+    same(&rt, ran.status.number(), 0);
+    same(&rt, ran.err.as_slice(), text.as_bytes());
     let played = answer(
         &rt,
         rt.alloc(),
@@ -150,7 +155,7 @@ fn times_stand_behind_the_report(rt: HostRuntime) -> Result<(), Fail> {
         &HELLO,
         &ran.written,
     )?;
-    assert_eq!(rt; played.status.number(), 0);
-    assert_eq!(rt; played.err.as_slice(), text.as_bytes());
+    same(&rt, played.status.number(), 0);
+    same(&rt, played.err.as_slice(), text.as_bytes());
     Ok(())
 }

@@ -1,6 +1,7 @@
 //! The top call over files in memory. What a run of the worked image comes to is worked by hand: nine instructions, of which
 //! the sixth, a write of two bytes, misses its line.
 
+use crate::tests::asserts::same;
 use el_io::{SureShelf, SureSink};
 use lab_tool::{Status, laboratory};
 use std::alloc::Global;
@@ -183,7 +184,7 @@ fn a_page_is_written(rt: HostRuntime) -> Result<(), Fail> {
 fn a_trace_is_written(rt: HostRuntime) -> Result<(), Fail> {
     let ending = answer(rt.alloc(), &["run", "i", "--order", "o", "--trace", "w"])?;
     // The head with its configuration, the usual one, and the number of events; then two steps that ran.
-    assert_eq!(rt; ending.shelf.contents("w").len(), 26);
+    same(&rt, ending.shelf.contents("w").len(), 26);
     assert!(rt;
         ending
             .shelf

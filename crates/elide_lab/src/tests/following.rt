@@ -1,45 +1,47 @@
 //! What comes of each event of a run is worked out by hand from the rules of steps and of the bus, and stands beside it.
 
 mod reserves;
+mod showing;
 
-use bus_order::Request;
+use crate::tests::asserts::same;
 use chronicle::Tally;
 use el_base::{Cause, Config, Event, HartId, Kind, LineAddr, Mode, Need, Outcome};
 use elf_image::load;
 use lab::LineFact::{Lost, Missed, Owner, Served, WroteBack};
 use lab::*;
 use machine::Machine;
-use moesi::Letter;
 use section_ctl::Live;
-use std::alloc::Global;
+use std::alloc::{AllocError, Global};
 use std::process::Abort;
 use std::test::Fail;
+use worked_files::HELLO;
 
-/// A program that takes the lock at 0x11000 again and again, stores to 0x11040, and gives the lock back by a swap; in one
-/// segment at 0x10000 that is the whole file. At 0x10054: `lui x5,0x11`, `addi x6,x0,5`; at 0x1005c `amoswap.w x7,x6,(x5)`,
-/// `sb x6,64(x5)`; at 0x10064 `amoswap.w x7,x0,(x5)`, `jal x0,.-12`, `addi x0,x0,0`.
-const SWAPS: [u8; 112] = [
-    0x7f, 0x45, 0x4c, 0x46, 0x01, 0x01, 0x01, 0x00, 0x00, 0x00, 0x00, 0x00, 0x00, 0x00, 0x00, 0x00,
-    0x02, 0x00, 0xf3, 0x00, 0x01, 0x00, 0x00, 0x00, 0x54, 0x00, 0x01, 0x00, 0x34, 0x00, 0x00, 0x00,
-    0x00, 0x00, 0x00, 0x00, 0x00, 0x00, 0x00, 0x00, 0x34, 0x00, 0x20, 0x00, 0x01, 0x00, 0x00, 0x00,
-    0x00, 0x00, 0x00, 0x00, 0x01, 0x00, 0x00, 0x00, 0x00, 0x00, 0x00, 0x00, 0x00, 0x00, 0x01, 0x00,
-    0x00, 0x00, 0x01, 0x00, 0x70, 0x00, 0x00, 0x00, 0x70, 0x00, 0x00, 0x00, 0x05, 0x00, 0x00, 0x00,
-    0x00, 0x10, 0x00, 0x00, 0xb7, 0x12, 0x01, 0x00, 0x13, 0x03, 0x50, 0x00, 0xaf, 0xa3, 0x62, 0x08,
-    0x23, 0x80, 0x62, 0x04, 0xaf, 0xa3, 0x02, 0x08, 0x6f, 0xf0, 0x5f, 0xff, 0x13, 0x00, 0x00, 0x00,
+/// A program that takes the lock at 0x11000 again and again, stores to 0x11040, and gives the lock back by a swap.
+const SWAPS: &[u32] = &[
+    0x000112b7, // 0x10054: lui x5,0x11
+    0x00500313, // addi x6,x0,5
+    0x0862a3af, // 0x1005c: amoswap.w x7,x6,(x5)
+    0x04628023, // sb x6,64(x5)
+    0x0802a3af, // 0x10064: amoswap.w x7,x0,(x5)
+    0xff5ff06f, // jal x0,.-12
+    0x00000013, // addi x0,x0,0
 ];
 
-/// One whose section stores another value to its lock word, and which has a swap that leaves the word as it was. At
-/// 0x10054: `lui x5,0x11`, `addi x6,x0,5`; at 0x1005c `amoswap.w x7,x6,(x5)`, `sw x5,0(x5)`, `sw x0,0(x5)`; at 0x10068
-/// `amoswap.w x7,x0,(x5)`, `jal x0,.-16`.
-const MIXES: [u8; 112] = [
-    0x7f, 0x45, 0x4c, 0x46, 0x01, 0x01, 0x01, 0x00, 0x00, 0x00, 0x00, 0x00, 0x00, 0x00, 0x00, 0x00,
-    0x02, 0x00, 0xf3, 0x00, 0x01, 0x00, 0x00, 0x00, 0x54, 0x00, 0x01, 0x00, 0x34, 0x00, 0x00, 0x00,
-    0x00, 0x00, 0x00, 0x00, 0x00, 0x00, 0x00, 0x00, 0x34, 0x00, 0x20, 0x00, 0x01, 0x00, 0x00, 0x00,
-    0x00, 0x00, 0x00, 0x00, 0x01, 0x00, 0x00, 0x00, 0x00, 0x00, 0x00, 0x00, 0x00, 0x00, 0x01, 0x00,
-    0x00, 0x00, 0x01, 0x00, 0x70, 0x00, 0x00, 0x00, 0x70, 0x00, 0x00, 0x00, 0x05, 0x00, 0x00, 0x00,
-    0x00, 0x10, 0x00, 0x00, 0xb7, 0x12, 0x01, 0x00, 0x13, 0x03, 0x50, 0x00, 0xaf, 0xa3, 0x62, 0x08,
-    0x23, 0xa0, 0x52, 0x00, 0x23, 0xa0, 0x02, 0x00, 0xaf, 0xa3, 0x02, 0x08, 0x6f, 0xf0, 0x1f, 0xff,
+/// One whose section stores another value to its lock word, and which has a swap that leaves the word as it was.
+const MIXES: &[u32] = &[
+    0x000112b7, // 0x10054: lui x5,0x11
+    0x00500313, // addi x6,x0,5
+    0x0862a3af, // 0x1005c: amoswap.w x7,x6,(x5)
+    0x0052a023, // sw x5,0(x5)
+    0x0002a023, // sw x0,0(x5)
+    0x0802a3af, // 0x10068: amoswap.w x7,x0,(x5)
+    0xff1ff06f, // jal x0,.-16
 ];
+
+/// Where in `HELLO` the code begins, and where the low bytes of the segment's two lengths stand.
+const CODE: usize = 0x54;
+
+const LENGTHS: [usize; 2] = [0x44, 0x48];
 
 const FIRST: HartId = HartId { number: 0 };
 
@@ -84,7 +86,7 @@ const DELIVER_1: (Kind, u8) = (Kind::Deliver, 1);
 /// Events of a program on eight harts, of which only the first two make any.
 #[derive(Clone, Copy)]
 struct Run {
-    file: &'static [u8],
+    code: &'static [u32],
     mode: Mode,
     sets: u8,
     ways: u8,
@@ -93,7 +95,7 @@ struct Run {
 
 /// Two harts under one lock, by lock elision.
 const CONTENDED: Run = Run {
-    file: &SWAPS,
+    code: SWAPS,
     mode: Mode::Sle,
     sets: 16,
     ways: 4,
@@ -116,7 +118,7 @@ const CONTENDED: Run = Run {
 
 /// One hart whose cache has room for one line: its section has none for the store, and the lock is taken plainly.
 const CROWDED: Run = Run {
-    file: &SWAPS,
+    code: SWAPS,
     mode: Mode::Sle,
     sets: 1,
     ways: 1,
@@ -134,7 +136,7 @@ const CROWDED: Run = Run {
 
 /// One hart whose section stores to its lock word: that acquire is trusted no more.
 const MIXED: Run = Run {
-    file: &MIXES,
+    code: MIXES,
     mode: Mode::Sle,
     sets: 16,
     ways: 4,
@@ -151,7 +153,7 @@ const MIXED: Run = Run {
 
 /// One hart that takes the lock, since none is elided.
 const PLAIN: Run = Run {
-    file: &SWAPS,
+    code: SWAPS,
     mode: Mode::Plain,
     sets: 16,
     ways: 4,
@@ -191,10 +193,26 @@ const TAKEN: PlainSwap = PlainSwap {
     why: NotElided::Fallback,
 };
 
+/// The file of these instructions, fewer than 40: the headers of `HELLO`, and one segment that is the whole file.
+fn file_of(alloc: Global, code: &[u32]) -> Result<Vec<u8>, AllocError> {
+    let mut file = HELLO[..CODE].to_vec(alloc)?;
+    for word in code {
+        file.extend_from_slice(&word.to_le_bytes())?;
+    }
+    let length = file.len() as u8;
+    for place in LENGTHS {
+        if let Some(byte) = file.get_mut(place) {
+            *byte = length;
+        }
+    }
+    Ok(file)
+}
+
 /// A machine of a run, with eight harts.
 fn machine_of(rt: &impl Abort, alloc: Global, run: &Run) -> Result<Machine, Fail> {
-    assert!(rt; run.file.len() <= 1_000);
-    let image = load(alloc, run.file, 8).map_err(|_| "no image")?;
+    let file = file_of(alloc, run.code)?;
+    assert!(rt; file.len() <= 1_000);
+    let image = load(alloc, &file, 8).map_err(|_| "no image")?;
     assert_eq!(rt; image.harts(), 8);
     let config = Config {
         harts: 8,
@@ -245,11 +263,12 @@ fn told(rt: &impl Abort, alloc: Global, run: &Run) -> Result<Watched, Fail> {
 
 /// Each fact is that of its row: its place, its line, and what it is.
 fn compare(rt: &impl Abort, facts: &[Fact], rows: &[(u32, LineAddr, LineFact)]) {
-    assert_eq!(rt; facts.len(), rows.len());
+    same(rt, facts.len(), rows.len());
     for (fact, row) in facts.iter().zip(rows) {
-        assert_eq!(rt;
+        same(
+            rt,
             (fact.place, fact.line, fact.what),
-            (row.0, Some(row.1), row.2)
+            (row.0, Some(row.1), row.2),
         );
     }
 }
@@ -277,7 +296,7 @@ fn a_section_is_lost_to_the_hart_that_waits_for_its_line(rt: HostRuntime) -> Res
             ..TRY
         },
     ];
-    assert_eq!(rt; told.tries.as_slice(), tries.as_slice());
+    same(&rt, told.tries.as_slice(), tries.as_slice());
     assert!(rt; told.swaps.is_empty());
     Ok(())
 }
@@ -430,11 +449,11 @@ fn a_full_cache_rolls_a_section_back(rt: HostRuntime) -> Result<(), Fail> {
         cause: Cause::Room,
     };
     let tries = [Try { ended: full, ..TRY }, GIVEN_BACK];
-    assert_eq!(rt; told.tries.as_slice(), tries.as_slice());
-    assert_eq!(rt; told.swaps.as_slice(), [TAKEN].as_slice());
+    same(&rt, told.tries.as_slice(), tries.as_slice());
+    same(&rt, told.swaps.as_slice(), [TAKEN].as_slice());
     let parted = part_releases(rt.alloc(), told.tries.as_slice(), &told.swaps)?;
-    assert_eq!(rt; parted.takes.as_slice(), &tries[..1]);
-    assert_eq!(rt; parted.releases.as_slice(), &tries[1..]);
+    same(&rt, parted.takes.as_slice(), &tries[..1]);
+    same(&rt, parted.releases.as_slice(), &tries[1..]);
     Ok(())
 }
 
@@ -531,8 +550,16 @@ fn swaps_that_run_say_why(rt: HostRuntime) -> Result<(), Fail> {
         ran: 1,
         cause: Cause::Mixed,
     };
-    assert_eq!(rt; mixed.tries.as_slice(), [Try { ended, ..TRY }].as_slice());
-    assert_eq!(rt; mixed.swaps.as_slice(), swaps_of_the_mixed_run().as_slice());
+    same(
+        &rt,
+        mixed.tries.as_slice(),
+        [Try { ended, ..TRY }].as_slice(),
+    );
+    same(
+        &rt,
+        mixed.swaps.as_slice(),
+        swaps_of_the_mixed_run().as_slice(),
+    );
     let plain = told(&rt, rt.alloc(), &PLAIN)?;
     let swap = PlainSwap {
         place: 5,
@@ -540,7 +567,7 @@ fn swaps_that_run_say_why(rt: HostRuntime) -> Result<(), Fail> {
         ..TAKEN
     };
     assert!(rt; plain.tries.as_slice().is_empty());
-    assert_eq!(rt; plain.swaps.as_slice(), [swap].as_slice());
+    same(&rt, plain.swaps.as_slice(), [swap].as_slice());
     Ok(())
 }
 
@@ -572,17 +599,18 @@ fn rows_count_the_sections_of_an_acquire(rt: HostRuntime) -> Result<(), Fail> {
         conflict: 1,
         ..Tally::default()
     };
-    assert_eq!(rt;
+    same(
+        &rt,
         told.tries.acquires(rt.alloc())?.as_slice(),
-        [TAKE].as_slice()
+        [TAKE].as_slice(),
     );
-    assert_eq!(rt; told.tries.counts(TAKE), row);
+    same(&rt, told.tries.counts(TAKE), row);
     let rows = tally_acquires(rt.alloc(), tries)?;
-    assert_eq!(rt; (rows.of(TAKE), rows.of(GIVE)), (row, Tally::default()));
+    same(&rt, (rows.of(TAKE), rows.of(GIVE)), (row, Tally::default()));
     for (winner, lost) in [(FIRST, 0), (SECOND, 1)] {
-        assert_eq!(rt; losses_to(rt.alloc(), tries, winner)?.of(TAKE), lost);
+        same(&rt, losses_to(rt.alloc(), tries, winner)?.of(TAKE), lost);
     }
-    assert_eq!(rt; lost_instr(rt.alloc(), tries)?.of(TAKE), 2);
+    same(&rt, lost_instr(rt.alloc(), tries)?.of(TAKE), 2);
     Ok(())
 }
 
@@ -590,7 +618,7 @@ fn rows_count_the_sections_of_an_acquire(rt: HostRuntime) -> Result<(), Fail> {
 fn rows_count_plain_swaps_by_their_reasons(rt: HostRuntime) -> Result<(), Fail> {
     let swaps = swaps_of_the_mixed_run();
     let acquires = acquires_of(rt.alloc(), &[GIVEN_BACK], &swaps)?;
-    assert_eq!(rt; acquires.as_slice(), [GIVE, TAKE, KEEP].as_slice());
+    same(&rt, acquires.as_slice(), [GIVE, TAKE, KEEP].as_slice());
     for (why, take, keep) in [
         (NotElided::PlainMode, 0, 0),
         (NotElided::Fallback, 1, 0),
@@ -598,7 +626,7 @@ fn rows_count_plain_swaps_by_their_reasons(rt: HostRuntime) -> Result<(), Fail> 
         (NotElided::NoCandidate, 0, 1),
     ] {
         let counts = plain_swaps(rt.alloc(), &swaps, why)?;
-        assert_eq!(rt; (counts.of(TAKE), counts.of(KEEP)), (take, keep));
+        same(&rt, (counts.of(TAKE), counts.of(KEEP)), (take, keep));
     }
     Ok(())
 }
@@ -608,7 +636,7 @@ fn acquires_come_in_the_order_of_their_first_sections(rt: HostRuntime) -> Result
     for (run, acquires) in [(&CROWDED, [TAKE, GIVE]), (&MIXED, [TAKE, KEEP])] {
         let told = told(&rt, rt.alloc(), run)?;
         let found = acquires_of(rt.alloc(), told.tries.as_slice(), &told.swaps)?;
-        assert_eq!(rt; found.as_slice(), acquires.as_slice());
+        same(&rt, found.as_slice(), acquires.as_slice());
     }
     Ok(())
 }
@@ -631,12 +659,13 @@ fn rows_count_the_facts_of_a_line(rt: HostRuntime) -> Result<(), Fail> {
         (&CROWDED, LineCount::WrittenBack, 1, 1),
     ] {
         let facts = told(&rt, rt.alloc(), run)?.facts;
-        assert_eq!(rt;
+        same(
+            &rt,
             lines_of(rt.alloc(), &facts)?.as_slice(),
-            [LOCK, DATA].as_slice()
+            [LOCK, DATA].as_slice(),
         );
         let counts = line_counts(rt.alloc(), &facts, what)?;
-        assert_eq!(rt; (counts.times(LOCK), counts.times(DATA)), (lock, data));
+        same(&rt, (counts.times(LOCK), counts.times(DATA)), (lock, data));
     }
     Ok(())
 }
@@ -678,9 +707,10 @@ fn a_section_after_its_own_harts_swap_gives_the_lock_back(rt: HostRuntime) -> Re
         ),
     ] {
         let parted = part_releases(rt.alloc(), &[GIVEN_BACK], &[first, second])?;
-        assert_eq!(rt;
+        same(
+            &rt,
             (parted.takes.len(), parted.releases.len()),
-            (1 - gives, gives)
+            (1 - gives, gives),
         );
     }
     Ok(())
@@ -700,92 +730,8 @@ fn harts_stand_at_a_pc_and_a_line(rt: HostRuntime) -> Result<(), Fail> {
         assert!(rt; machine.config().harts == 8);
         for (hart, row) in [(FIRST, first), (SECOND, second)] {
             let wait = wait_of(&machine, hart);
-            assert_eq!(rt; (wait.pc, wait.line, wait.last), row);
+            same(&rt, (wait.pc, wait.line, wait.last), row);
         }
-    }
-    Ok(())
-}
-
-/// What the event after so many of the contended run did.
-fn shown(rt: &impl Abort, alloc: Global, made: usize, row: (Kind, u8)) -> Result<Shown, Fail> {
-    let event = event(row)?;
-    let mut machine = machine_after(rt, alloc, &CONTENDED, made)?;
-    assert!(rt; machine.steps_left() >= 1);
-    assert!(rt; event.hart.number < machine.config().harts);
-    let shown = show(&mut machine, event);
-    assert_eq!(rt; (shown.place as usize, shown.event), (made, event));
-    Ok(shown)
-}
-
-#[test]
-fn events_of_the_bus_show_requests_and_letters(rt: HostRuntime) -> Result<(), Fail> {
-    let request = Request {
-        hart: SECOND,
-        line: DATA,
-        need: Need::Write,
-        stamp: None,
-    };
-    let mut before = [Letter::I; 8];
-    before[0] = Letter::M;
-    let mut after = [Letter::I; 8];
-    after[1] = Letter::M;
-    let request = Some(request);
-    for (made, row, what) in [
-        (
-            17,
-            ORDER_1,
-            What::Order {
-                request,
-                at: Some(0),
-            },
-        ),
-        (
-            17,
-            ORDER,
-            What::Order {
-                request: None,
-                at: None,
-            },
-        ),
-        (
-            18,
-            SERVE_1,
-            What::Serve {
-                request,
-                before,
-                after,
-            },
-        ),
-        (
-            18,
-            DELIVER_1,
-            What::Deliver {
-                message: None,
-                about: None,
-            },
-        ),
-    ] {
-        assert_eq!(rt; shown(&rt, rt.alloc(), made, row)?.what, what);
-    }
-    Ok(())
-}
-
-#[test]
-fn a_step_shows_what_its_hart_saw(rt: HostRuntime) -> Result<(), Fail> {
-    let shown = shown(&rt, rt.alloc(), 5, STEP)?;
-    assert_eq!(rt; shown.outcome, Outcome::Began);
-    let live = Live {
-        count: 1,
-        word: 0x1_1000,
-        old: 0,
-        new: 5,
-    };
-    match shown.what {
-        What::Step { before, after, .. } => {
-            assert_eq!(rt; (before.view.pc, before.section), (0x1_005c, None));
-            assert_eq!(rt; (after.view.pc, after.section), (0x1_0060, Some(live)));
-        }
-        _ => assert!(rt; false),
     }
     Ok(())
 }

@@ -1,4 +1,5 @@
 //! Addresses by the names of their symbols.
+use crate::tests::asserts::same;
 use elf_symbols::{Symbols, read_symbols};
 use lab_names::Named;
 use std::test::Fail;
@@ -36,7 +37,7 @@ fn an_address_has_its_nearest_symbol_behind_it(rt: HostRuntime) -> Result<(), Fa
     for (address, text) in rows {
         let symbols = &symbols;
         let named = format!(in rt.alloc(); "{}", Named { address, symbols })?;
-        assert_eq!(rt; named.as_str(), text);
+        same(&rt, named.as_str(), text);
     }
     Ok(())
 }
@@ -47,6 +48,6 @@ fn without_symbols_it_stands_alone(rt: HostRuntime) -> Result<(), Fail> {
     let address = 0x1_0540;
     let symbols = &symbols;
     let named = format!(in rt.alloc(); "{}", Named { address, symbols })?;
-    assert_eq!(rt; named.as_str(), "00010540");
+    same(&rt, named.as_str(), "00010540");
     Ok(())
 }

@@ -1,4 +1,5 @@
 //! The columns and the markup are worked by hand.
+use crate::tests::asserts::same;
 use el_base::{Cause, Config, HartId, LineAddr, Mode, Need};
 use elf_symbols::Symbols;
 use lab::{Acquire, Ended, Fact, LineFact, Try};
@@ -33,7 +34,7 @@ const COLUMNS: [(u32, u32, u32, u32); 8] = [
 fn places_have_columns(rt: HostRuntime) -> Result<(), Fail> {
     for (events, width, place, column) in &COLUMNS {
         let scale = Scale::new(*events, *width);
-        assert_eq!(rt; scale.column(*place), *column);
+        same(&rt, scale.column(*place), *column);
     }
     Ok(())
 }
@@ -84,13 +85,14 @@ fn sections_of_one_column_are_one_bar(rt: HostRuntime) -> Result<(), Fail> {
         shown.push((bar.last, bar.counts[0], bar.counts[2], bar.counts[3]))?;
     }
     assert_eq!(rt; shown.len(), 12);
-    assert_eq!(rt;
+    same(
+        &rt,
         &shown[..3],
-        [(0, 1, 0, 0), (3, 0, 0, 1), (0, 0, 0, 0)].as_slice()
+        [(0, 1, 0, 0), (3, 0, 0, 1), (0, 0, 0, 0)].as_slice(),
     );
     let bars = together(alloc, SECOND, &pieces, scale.width)?;
     assert_eq!(rt; bars.len(), 12);
-    assert_eq!(rt; bars[0].counts[Kind::Lost.number()], 1);
+    same(&rt, bars[0].counts[Kind::Lost.number()], 1);
     Ok(())
 }
 

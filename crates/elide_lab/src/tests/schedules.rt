@@ -1,3 +1,4 @@
+use crate::tests::asserts::same;
 use el_base::{Chronicled, Config, Event, HartId, Kind, Mode};
 use elf_image::load;
 use lab_run::*;
@@ -41,10 +42,10 @@ fn a_seed_draws_the_events_of_a_run(rt: HostRuntime) -> Result<(), Fail> {
     let mut machine = machine(&rt, rt.alloc(), 3, 5)?;
     run_drawn(&mut machine, 1_234_567);
     let history = machine.history();
-    assert_eq!(rt; history.length(), 5);
+    same(&rt, history.length(), 5);
     for (place, (kind, number)) in DRAWN.into_iter().enumerate() {
         assert!(rt; place < history.length() as usize);
-        assert_eq!(rt; history.entry(place as u32).event, event(kind, number)?);
+        same(&rt, history.entry(place as u32).event, event(kind, number)?);
     }
     Ok(())
 }
@@ -56,8 +57,8 @@ fn drawn_runs_come_to_their_end(rt: HostRuntime) -> Result<(), Fail> {
         let mut machine = machine(&rt, rt.alloc(), 3, 100_000)?;
         run_drawn(&mut machine, seed);
         assert!(rt; machine.over());
-        assert_eq!(rt; machine.output(), b"A\nA\nA\n".as_slice());
-        assert_eq!(rt; machine.history().serial_len(), 27);
+        same(&rt, machine.output(), b"A\nA\nA\n".as_slice());
+        same(&rt, machine.history().serial_len(), 27);
     }
     Ok(())
 }

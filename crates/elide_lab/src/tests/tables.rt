@@ -1,4 +1,5 @@
 //! The numbers and the texts are worked by hand.
+use crate::tests::asserts::same;
 use chronicle::Tally;
 use el_base::{Cause, HartId, LineAddr, Need, NoMemory};
 use elf_symbols::Symbols;
@@ -146,7 +147,7 @@ fn wanted_locks() -> [LockRow; 2] {
 #[test]
 fn each_acquire_has_a_row(rt: HostRuntime) -> Result<(), Fail> {
     let rows = lock_rows(rt.alloc(), LockKind::Take, &tries(), &SWAPS)?;
-    assert_eq!(rt; rows.as_slice(), wanted_locks().as_slice());
+    same(&rt, rows.as_slice(), wanted_locks().as_slice());
     Ok(())
 }
 
@@ -161,7 +162,7 @@ fn each_line_has_a_row(rt: HostRuntime) -> Result<(), Fail> {
     };
     wanted.beats[0][1] = 1;
     let rows = line_rows(rt.alloc(), &facts())?;
-    assert_eq!(rt; rows.as_slice(), [wanted].as_slice());
+    same(&rt, rows.as_slice(), [wanted].as_slice());
     Ok(())
 }
 
@@ -195,7 +196,7 @@ fn locks_are_laid_out(rt: HostRuntime) -> Result<(), Fail> {
     for (layout, text) in &LOCKS {
         let mut out = String::new(alloc);
         write_table(alloc, &mut out, &wanted_locks(), &symbols, *layout)?;
-        assert_eq!(rt; out.as_str(), *text);
+        same(&rt, out.as_str(), *text);
     }
     Ok(())
 }
@@ -236,7 +237,7 @@ fn lines_are_laid_out(rt: HostRuntime) -> Result<(), Fail> {
     for (layout, text) in &LINES {
         let mut out = String::new(alloc);
         write_table(alloc, &mut out, &[row], &symbols, *layout)?;
-        assert_eq!(rt; out.as_str(), *text);
+        same(&rt, out.as_str(), *text);
     }
     Ok(())
 }
@@ -281,7 +282,7 @@ fn marks_are_escaped(rt: HostRuntime) -> Result<(), Fail> {
             write_table(alloc, &mut out, &[word], &Symbols::none(alloc), layout)?;
         }
         let wanted = format!(in alloc; "{{\"word\":{json}}}\nword\r\n{csv}\r\n")?;
-        assert_eq!(rt; out.as_str(), wanted.as_str());
+        same(&rt, out.as_str(), wanted.as_str());
     }
     Ok(())
 }
@@ -310,6 +311,6 @@ fn a_trace_says_what_it_is(rt: HostRuntime) -> Result<(), Fail> {
     let trace = read_trace(rt.alloc(), &TRACE).map_err(|_| "no trace")?;
     let mut out = String::new(rt.alloc());
     write_info(&mut out, &trace)?;
-    assert_eq!(rt; out.as_str(), INFO);
+    same(&rt, out.as_str(), INFO);
     Ok(())
 }

@@ -1,5 +1,6 @@
 //! Words of events and states, written by hand.
 
+use crate::tests::asserts::{same, same_at};
 use crate::tests::names::NAMED;
 use bus_order::Request;
 use chronicle::History;
@@ -209,7 +210,7 @@ fn reads(
     let Phrase { item, symbols } = phrase;
     let text = format!(in alloc; "{}", phrase)?;
     let json = format!(in alloc; "{}", Member { item, symbols })?;
-    assert_eq!(rt; (text.as_str(), json.as_str()), (words, object));
+    same(rt, (text.as_str(), json.as_str()), (words, object));
     Ok(())
 }
 
@@ -413,8 +414,8 @@ fn events_read_as_written(rt: HostRuntime) -> Result<(), Fail> {
     let mut lines = String::new(rt.alloc());
     let mut objects = String::new(rt.alloc());
     write_events(&mut lines, &mut objects, &Names { symbols, image })?;
-    assert_eq!(rt; lines.as_str(), LINES);
-    assert_eq!(rt; objects.as_str(), OBJECTS);
+    same(&rt, lines.as_str(), LINES);
+    same(&rt, objects.as_str(), OBJECTS);
     Ok(())
 }
 
@@ -427,7 +428,7 @@ fn letting_go_is_about_the_line_of_its_word(rt: HostRuntime) {
         (0x1_0040, true),
         (0x1_0058, true),
     ] {
-        assert_eq!(rt; is_about(&let_go(), address), about, "{address:x}");
+        same_at(&rt, address, is_about(&let_go(), address), about);
     }
 }
 
@@ -460,10 +461,11 @@ fn a_wait_reads_as_written(rt: HostRuntime) -> Result<(), Fail> {
     let mut lines = String::new(rt.alloc());
     write_wait(&mut lines, H0, &waiting, &times, 100, symbols)?;
     write_wait(&mut lines, H1, &going, &times, 100, symbols)?;
-    assert_eq!(rt;
+    same(
+        &rt,
         lines.as_str(),
         "hart 0 at 00010054 <_start+44> waits for line 00010540 <lock>, lost 2 times to hart 1, 1 time to hart 2; \
-         no instruction took effect in the last 95 events\nhart 1 at 00010000\n"
+         no instruction took effect in the last 95 events\nhart 1 at 00010000\n",
     );
     Ok(())
 }
@@ -495,7 +497,7 @@ fn stands(
 ) -> Result<(), Fail> {
     let mut text = String::new(alloc);
     write_state(&mut text, machine, names)?;
-    assert_eq!(rt; text.as_str(), wanted);
+    same(rt, text.as_str(), wanted);
     Ok(())
 }
 

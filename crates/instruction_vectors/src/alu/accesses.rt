@@ -1,4 +1,5 @@
 use super::*;
+use crate::asserts::same_at;
 use rv_word::{AmoOp, Insn, LoadWidth, Reg, StoreWidth, Test};
 
 const X5: Reg = Reg { number: 5 };
@@ -20,11 +21,7 @@ fn memory_ends_before_its_end(rt: HostRuntime) {
         (0, ONES, false),
         (ONES, ONES, false),
     ] {
-        assert_eq!(rt;
-            SPAN.holds(address, size),
-            inside,
-            "{size} from {address:#x}"
-        );
+        same_at(&rt, (size, address), SPAN.holds(address, size), inside);
     }
 }
 
@@ -127,7 +124,7 @@ fn loads_trap_as_misaligned_before_they_trap_outside(rt: HostRuntime) {
         let mut regs = Regs::zero();
         regs.set(X5, x5);
         let touched = access(&insn, PC, &regs, None, SPAN, ROOM);
-        assert_eq!(rt; touched, want, "{insn:?} at {x5:#x}");
+        same_at(&rt, (insn, x5), touched, want);
     }
 }
 
@@ -172,7 +169,7 @@ fn stores_trap_as_misaligned_before_they_trap_outside(rt: HostRuntime) {
         let mut regs = Regs::zero();
         regs.set(X5, x5);
         let touched = access(&insn, PC, &regs, reserved, SPAN, ROOM);
-        assert_eq!(rt; touched, want, "{insn:?} at {x5:#x} after {reserved:?}");
+        same_at(&rt, (insn, x5, reserved), touched, want);
     }
 }
 
@@ -205,6 +202,6 @@ fn taken_jumps_trap_where_their_target_is_no_word(rt: HostRuntime) {
         let mut regs = Regs::zero();
         regs.set(X5, x5);
         let touched = access(&insn, PC, &regs, None, SPAN, ROOM);
-        assert_eq!(rt; touched, want, "{insn:?} with {x5:#x}");
+        same_at(&rt, (insn, x5), touched, want);
     }
 }

@@ -1,4 +1,5 @@
 use super::*;
+use crate::asserts::same_at;
 use rv_word::Reg;
 use std::process::Abort;
 
@@ -71,10 +72,11 @@ fn writes_stop_at_their_line_and_at_the_room(rt: HostRuntime) {
         let mut after = caller(64, arguments);
         after.regs.set(A0, answer);
         after.pc = PC + 4;
-        assert_eq!(rt;
+        same_at(
+            &rt,
+            arguments,
             (action.footprint(), transfers.append, transfers.store, view),
             (footprint, wanted, None, after),
-            "{arguments:?}"
         );
     }
 }
@@ -85,25 +87,27 @@ fn only_write_and_exit_are_there(rt: HostRuntime) {
     let no_such_call = 0xffff_ffda;
     for number in [0, 63, 65, 94, 0x8000_005d, ONES] {
         let (action, transfers, view) = called(&rt, caller(number, [1, 0x10000, 4]), ROOM);
-        assert_eq!(rt;
+        same_at(
+            &rt,
+            number,
             (
                 action.footprint(),
                 transfers.append,
                 view.regs.get(A0),
-                view.pc
+                view.pc,
             ),
             (Access::Nothing, None, no_such_call, PC + 4),
-            "call {number}"
         );
     }
     for code in [0, 1, LEAST, ONES] {
         let (action, _, view) = called(&rt, caller(93, [code, 0, 0]), ROOM);
         let mut after = caller(93, [code, 0, 0]);
         after.status = HartStatus::Exited { code };
-        assert_eq!(rt;
+        same_at(
+            &rt,
+            code,
             (action.footprint(), view),
             (Access::Exit { code }, after),
-            "exit {code}"
         );
     }
 }

@@ -1,4 +1,5 @@
 use super::*;
+use crate::asserts::same_at;
 use rv_word::{Alu, AmoOp, LoadWidth, Reg, Test};
 use std::process::Abort;
 
@@ -176,21 +177,17 @@ const LOADS: &[[u32; 6]] = &[
 
 /// The operation gives this of two words.
 fn gives(rt: &impl Abort, op: Alu, left: u32, right: u32, want: u32) {
-    assert_eq!(rt; alu(op, left, right), want, "{op:?} {left:#x} {right:#x}");
+    same_at(rt, (op, left, right), alu(op, left, right), want);
 }
 
 /// The atomic operation gives this of two words.
 fn leaves(rt: &impl Abort, op: AmoOp, left: u32, right: u32, want: u32) {
-    assert_eq!(rt; amo(op, left, right), want, "{op:?} {left:#x} {right:#x}");
+    same_at(rt, (op, left, right), amo(op, left, right), want);
 }
 
 /// A branch is taken or not, by this test of two words.
 fn branches(rt: &impl Abort, test: Test, left: u32, right: u32, want: bool) {
-    assert_eq!(rt;
-        taken(test, left, right),
-        want,
-        "{test:?} {left:#x} {right:#x}"
-    );
+    same_at(rt, (test, left, right), taken(test, left, right), want);
 }
 
 #[test]
@@ -280,7 +277,7 @@ fn loads_extend_by_sign_or_zeros(rt: HostRuntime) {
             (LoadWidth::ByteU, byte_u),
             (LoadWidth::HalfU, half_u),
         ] {
-            assert_eq!(rt; extend(width, raw), want, "{width:?} of {raw:#x}");
+            same_at(&rt, (width, raw), extend(width, raw), want);
         }
     }
 }
@@ -291,10 +288,11 @@ fn register_0_stays_0(rt: HostRuntime) {
     for number in 0..32 {
         if let Some(reg) = Reg::new(number) {
             regs.set(reg, ONES);
-            assert_eq!(rt;
+            same_at(
+                &rt,
+                number,
                 regs.get(reg),
                 if number == 0 { 0 } else { ONES },
-                "x{number}"
             );
         }
     }

@@ -1,4 +1,5 @@
 use super::*;
+use crate::asserts::{same, same_at};
 
 /// The arguments of a write of 200 bytes that begin 10 bytes before the end of a line.
 ///
@@ -37,10 +38,11 @@ fn calls_answer_and_write(rt: HostRuntime) -> Result<(), Fail> {
         let mut flat = flat_of(&rt, rt.alloc(), &code, 1)?;
         go(&rt, &mut flat, 0, code.len());
         let view = seen(&rt, &flat, 0);
-        assert_eq!(rt;
+        same_at(
+            &rt,
+            words,
             (word_in(&rt, &view, 10), view.status, flat.output()),
             (answer, HartStatus::Running, output),
-            "after {words:?}"
         );
     }
     Ok(())
@@ -58,10 +60,11 @@ fn the_output_fills_up(rt: HostRuntime) -> Result<(), Fail> {
     // 10 bytes, then 262,143 times a line, then the 54 bytes that are left
     go(&rt, &mut flat, 0, 7 + 3 * 262_144 + 3);
     let view = seen(&rt, &flat, 0);
-    assert_eq!(rt;
+    same(
+        &rt,
         (view.pc, word_in(&rt, &view, 13), word_in(&rt, &view, 10)),
-        (0x10088, 54, 0xffff_ffe4)
+        (0x10088, 54, 0xffff_ffe4),
     );
-    assert_eq!(rt; flat.output().len(), 16_777_216);
+    same(&rt, flat.output().len(), 16_777_216);
     Ok(())
 }

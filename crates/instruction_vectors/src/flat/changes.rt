@@ -1,6 +1,7 @@
 ghost use Rattle.std.specs.Prelude.{◌<◌, length};
 
 use super::*;
+use crate::asserts::{same, same_at};
 use std::mem::size_of;
 
 /// The end of memory with one hart.
@@ -78,14 +79,15 @@ fn a_step_notes_what_it_overwrites(rt: HostRuntime) -> Result<(), Fail> {
         go(&rt, &mut flat, 0, code.len().saturating_sub(1));
         let change = noted(&rt, &mut flat, 0);
         let bytes = change.bytes;
-        assert_eq!(rt;
+        same_at(
+            &rt,
+            code,
             (
                 (change.reg.number, change.value),
                 (change.address, change.len, bytes),
-                change.output
+                change.output,
             ),
             (register, place, output),
-            "{code:?}"
         );
     }
     Ok(())
@@ -126,15 +128,16 @@ fn undoing_a_store_gives_both_harts_their_reservations_back(rt: HostRuntime) -> 
     go(&rt, &mut flat, 1, 4);
     let change = noted_and_undone(&rt, &mut flat, 1);
     let (first, second) = (seen(&rt, &flat, 0), seen(&rt, &flat, 1));
-    assert_eq!(rt; change.words, [0x30040, 0x30040, 0, 0, 0, 0, 0, 0]);
-    assert_eq!(rt;
+    same(&rt, change.words, [0x30040, 0x30040, 0, 0, 0, 0, 0, 0]);
+    same(
+        &rt,
         (
             first.reserved,
             second.reserved,
             second.pc,
-            flat.byte(0x30044)
+            flat.byte(0x30044),
         ),
-        (Some(0x30040), Some(0x30040), 0x10064, Some(0))
+        (Some(0x30040), Some(0x30040), 0x10064, Some(0)),
     );
     Ok(())
 }
@@ -147,8 +150,8 @@ fn undoing_a_write_call_takes_its_output_back(rt: HostRuntime) -> Result<(), Fai
     go(&rt, &mut flat, 0, 4);
     noted_and_undone(&rt, &mut flat, 0);
     let view = seen(&rt, &flat, 0);
-    assert_eq!(rt; (flat.output().len(), word_in(&rt, &view, 10)), (0, 1));
+    same(&rt, (flat.output().len(), word_in(&rt, &view, 10)), (0, 1));
     go(&rt, &mut flat, 0, 1);
-    assert_eq!(rt; flat.output(), b"\x7fEL".as_slice());
+    same(&rt, flat.output(), b"\x7fEL".as_slice());
     Ok(())
 }

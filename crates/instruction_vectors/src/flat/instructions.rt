@@ -1,4 +1,5 @@
 use super::*;
+use crate::asserts::{same, same_at};
 
 /// The end of memory with one hart.
 const END: u32 = 0x20080;
@@ -190,14 +191,10 @@ fn after(rt: &impl Abort, alloc: Global, code: &[u32]) -> Result<HartView, Fail>
 fn jumps_and_operations_leave_registers_and_pc(rt: HostRuntime) -> Result<(), Fail> {
     for &(code, registers, pc) in JUMPS_AND_OPERATIONS {
         let view = after(&rt, rt.alloc(), code)?;
-        assert_eq!(rt; view.pc, pc, "after {code:?}");
-        assert_eq!(rt; view.status, HartStatus::Running);
+        same_at(&rt, code, view.pc, pc);
+        same(&rt, view.status, HartStatus::Running);
         for (number, word) in registers {
-            assert_eq!(rt;
-                word_in(&rt, &view, *number),
-                *word,
-                "x{number} after {code:?}"
-            );
+            same_at(&rt, (number, code), word_in(&rt, &view, *number), *word);
         }
     }
     Ok(())
@@ -207,13 +204,9 @@ fn jumps_and_operations_leave_registers_and_pc(rt: HostRuntime) -> Result<(), Fa
 fn loads_and_stores_see_memory(rt: HostRuntime) -> Result<(), Fail> {
     for &(code, registers) in LOADS_AND_STORES {
         let view = after(&rt, rt.alloc(), code)?;
-        assert_eq!(rt; view.status, HartStatus::Running);
+        same(&rt, view.status, HartStatus::Running);
         for (number, word) in registers {
-            assert_eq!(rt;
-                word_in(&rt, &view, *number),
-                *word,
-                "x{number} after {code:?}"
-            );
+            same_at(&rt, (number, code), word_in(&rt, &view, *number), *word);
         }
     }
     Ok(())
@@ -225,14 +218,10 @@ fn a_store_conditional_succeeds_at_its_reserved_word(rt: HostRuntime) -> Result<
         let mut code = PROLOGUE.to_vec(rt.alloc())?;
         code.extend_from_slice(words)?;
         let view = after(&rt, rt.alloc(), &code)?;
-        assert_eq!(rt; view.status, HartStatus::Running);
-        assert_eq!(rt; view.reserved, None);
+        same(&rt, view.status, HartStatus::Running);
+        same(&rt, view.reserved, None);
         for (number, word) in registers {
-            assert_eq!(rt;
-                word_in(&rt, &view, *number),
-                *word,
-                "x{number} after {words:?}"
-            );
+            same_at(&rt, (number, words), word_in(&rt, &view, *number), *word);
         }
     }
     Ok(())

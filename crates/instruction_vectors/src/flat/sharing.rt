@@ -1,4 +1,5 @@
 use super::*;
+use crate::asserts::{same, same_at};
 
 /// Both harts take the last line of memory as x5. Hart 0 reserves its first word, stores 2 to it on
 /// condition with the answer in x7, and loads it to x8. Hart 1 jumps over this.
@@ -43,14 +44,14 @@ fn a_write_to_the_line_takes_the_reservation(rt: HostRuntime) -> Result<(), Fail
         code.extend_from_slice(others)?;
         let mut flat = flat_of(&rt, rt.alloc(), &code, 2)?;
         go(&rt, &mut flat, 0, 5);
-        assert_eq!(rt; seen(&rt, &flat, 0).reserved, Some(0x30040));
+        same(&rt, seen(&rt, &flat, 0).reserved, Some(0x30040));
         go(&rt, &mut flat, 1, 4);
         go(&rt, &mut flat, 1, others.len());
         go(&rt, &mut flat, 0, 2);
         let view = seen(&rt, &flat, 0);
-        assert_eq!(rt; word_in(&rt, &view, 7), failed, "after {others:?}");
-        assert_eq!(rt; word_in(&rt, &view, 8), word, "after {others:?}");
-        assert_eq!(rt; seen(&rt, &flat, 1).reserved, reserved, "after {others:?}");
+        same_at(&rt, others, word_in(&rt, &view, 7), failed);
+        same_at(&rt, others, word_in(&rt, &view, 8), word);
+        same_at(&rt, others, seen(&rt, &flat, 1).reserved, reserved);
     }
     Ok(())
 }

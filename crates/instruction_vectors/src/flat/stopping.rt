@@ -1,4 +1,5 @@
 use super::*;
+use crate::asserts::{same, same_at};
 
 /// Instructions, the last of which traps, and the cause.
 const TRAPS: &[(&[u32], u8)] = &[
@@ -84,20 +85,17 @@ fn a_trap_leaves_the_hart_at_its_instruction(rt: HostRuntime) -> Result<(), Fail
         let mut flat = flat_of(&rt, rt.alloc(), code, 1)?;
         go(&rt, &mut flat, 0, code.len().saturating_sub(1));
         let before = seen(&rt, &flat, 0);
-        assert_eq!(rt;
-            before.status,
-            HartStatus::Running,
-            "before the end of {code:?}"
-        );
+        same_at(&rt, code, before.status, HartStatus::Running);
         let status = HartStatus::Trapped {
             cause,
             pc: before.pc,
         };
         go(&rt, &mut flat, 0, 2);
-        assert_eq!(rt;
+        same_at(
+            &rt,
+            code,
             seen(&rt, &flat, 0),
             HartView { status, ..before },
-            "{code:?}"
         );
     }
     Ok(())
@@ -117,8 +115,8 @@ fn a_pc_outside_the_code_traps(rt: HostRuntime) -> Result<(), Fail> {
         let mut flat = flat_of(&rt, rt.alloc(), code, 1)?;
         go(&rt, &mut flat, 0, 2);
         let view = seen(&rt, &flat, 0);
-        assert_eq!(rt; view.pc, pc);
-        assert_eq!(rt; view.status, HartStatus::Trapped { cause: 1, pc });
+        same(&rt, view.pc, pc);
+        same(&rt, view.status, HartStatus::Trapped { cause: 1, pc });
     }
     Ok(())
 }
@@ -132,7 +130,7 @@ fn an_exit_leaves_the_hart_at_its_call(rt: HostRuntime) -> Result<(), Fail> {
     let before = seen(&rt, &flat, 0);
     go(&rt, &mut flat, 0, 2);
     let status = HartStatus::Exited { code: 0xffff_fffd };
-    assert_eq!(rt; seen(&rt, &flat, 0), HartView { status, ..before });
-    assert_eq!(rt; before.pc, 0x1005c);
+    same(&rt, seen(&rt, &flat, 0), HartView { status, ..before });
+    same(&rt, before.pc, 0x1005c);
     Ok(())
 }

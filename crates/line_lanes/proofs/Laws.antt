@@ -1,10 +1,12 @@
--- Laws of merged lines for the crates above.
-use Rattle.std.proofs.Common.{◌≡◌, ℕ, ◌+◌, ◌*◌, ◌<◌, List, length, slice_index, arith}
-use Rattle.std.specs.Int.{bit_at}
+-- Laws of merged lines and of words in lines, for the crates above.
+use Rattle.std.proofs.Common.{◌≡◌, ℕ, zero, suc, ◌+◌, ◌-◌, ◌*◌, ◌/◌, ◌%◌, ◌^◌, ◌<◌, ◌&&◌, nat_le, nat_lt, if◌then◌else◌}
+use Rattle.std.proofs.Common.{List, length, slice_index, refl, ap, arith}
+use Rattle.std.specs.Int.{bit_at, byte_at}
 use Rattle.std.proofs.lemmas.Bool.Decides.{nat_tests}
 use Rattle.std.proofs.lemmas.Nat.Bits.{bit_at-zero}
 use Rattle.std.proofs.lemmas.Grind.{same_number_lists}
-use Rattle.line_lanes.specs.Merged.{merged_byte, word_at}
+use Rattle.line_lanes.specs.Merged.{merged_byte}
+use Rattle.line_lanes.specs.Words.{put_byte, word_at}
 
 -- a merged byte where the mask has its bit, and where it has not
 pub merged-over : (line over : List ℕ) (mask place : ℕ) → bit_at mask place ≡ 1 →
@@ -32,6 +34,26 @@ pub merged-below : (line over : List ℕ) (mask place : ℕ) → slice_index lin
 merged-below line over mask place small other_small = grind (arith, nat_tests)
 
 -- a word as its first byte and 256 times the rest
-pub word-nested : (byte : ℕ → ℕ) (place : ℕ)
-    → word_at byte place ≡ byte place + 256 * (byte (place + 1) + 256 * (byte (place + 2) + 256 * byte (place + 3)))
-word-nested byte place = omega arith
+pub word_nested : (byte : ℕ → ℕ) (place : ℕ)
+    → word_at byte place
+    ≡ byte place + 256 * (byte (place + 1) + 256 * (byte (place + 1 + 1) + 256 * (byte (place + 1 + 1 + 1) + 256 * 0)))
+word_nested byte place = omega (arith, ap byte second, ap byte third)
+  where
+    second : place + 1 + 1 ≡ place + 2
+    second = omega arith
+
+    third : place + 1 + 1 + 1 ≡ place + 3
+    third = omega arith
+
+-- the byte at a place after a word was put at another, by division
+pub put_divided : (line : List ℕ) (offset word place : ℕ)
+    → put_byte line offset word place
+    ≡ (if nat_le offset place && nat_lt place (offset + 4) then word / 256 ^ (place - offset) % 256
+    else slice_index line place)
+put_divided line offset word place =
+    ap (λ n. if nat_le offset place && nat_lt place (offset + 4) then n else slice_index line place)
+    (divided (place - offset))
+  where
+    divided : (k : ℕ) → byte_at k word ≡ word / 256 ^ k % 256
+    divided zero = omega arith
+    divided (suc k) = refl

@@ -6,7 +6,8 @@ use Rattle.std.specs.Int.{bit_at, byte_at, bytes_low_first, to_le_bytes, w64}
 use Rattle.std.proofs.lemmas.Nat.{shr-shr}
 use Rattle.std.proofs.lemmas.Grind.{common_steps}
 use Rattle.line_lanes.specs.Lanes.{IsMergedFrom, IsPutAt}
-use Rattle.line_lanes.specs.Merged.{merged_byte, word_at}
+use Rattle.line_lanes.specs.Merged.{merged_byte}
+use Rattle.line_lanes.specs.Words.{word_at}
 use Rattle.line_lanes.proofs.Bytes.{byte_below}
 
 -- the bytes of a number, listed from one on
@@ -81,10 +82,28 @@ word_is lane word place bytes byte is bytes_are are =
     each k less = ap (λ l. slice_index l k) bytes_are ∙ byte_listed k lane (omega arith) ∙ are k less
 
 -- and they are bytes
-pub bytes_fit : (byte : ℕ → ℕ) (lane from offset : ℕ) → from ≡ offset →
-    ((k : ℕ) → k < 4 → byte_at k lane ≡ byte (from + k))
+pub bytes_fit : (byte : ℕ → ℕ) (lane offset : ℕ) → ((k : ℕ) → k < 4 → byte_at k lane ≡ byte (offset + k))
     → (place : ℕ) → offset ≤ place → place < offset + 4 → byte place < 256
-bytes_fit byte lane from offset is are place past before = at (place - from) (omega arith) (omega arith)
+bytes_fit byte lane offset are place past before = at (place - offset) (omega arith) (omega arith)
   where
-    at : (k : ℕ) → k < 4 → place ≡ from + k → byte place < 256
+    at : (k : ℕ) → k < 4 → place ≡ offset + k → byte place < 256
     at k less same = subst (λ n. n < 256) (are k less ∙ ap byte (sym same)) (byte_below k lane)
+
+-- a byte of a word that was read
+pub byte_read : (byte : ℕ → ℕ) (place k word : ℕ) → word ≡ word_at byte place
+    → ((p : ℕ) → place ≤ p → p < place + 4 → byte p < 256) → k < 4 → byte_at k word ≡ byte (place + k)
+byte_read byte place k word is small less = ap (byte_at k) is ∙ at k less
+  where
+    each : (j : ℕ) → j < 4 → byte (place + j) < 256
+    each j before = small (place + j) (omega arith) (omega arith)
+
+    first : byte (place + 0) ≡ byte place
+    first = ap byte (add-zero place)
+
+    at : (j : ℕ) → j < 4 → byte_at j (word_at byte place) ≡ byte (place + j)
+    at zero before = omega (arith, first, each 0 (lit< tt))
+    at (suc zero) before = omega (arith, first, each 0 (lit< tt), each 1 (lit< tt))
+    at (suc (suc zero)) before = omega (arith, first, each 0 (lit< tt), each 1 (lit< tt), each 2 (lit< tt))
+    at (suc (suc (suc zero))) before =
+        omega (arith, first, each 0 (lit< tt), each 1 (lit< tt), each 2 (lit< tt), each 3 (lit< tt))
+    at (suc (suc (suc (suc j)))) before = absurd (omega arith)

@@ -1,7 +1,8 @@
 ghost use Rattle.std.specs.Prelude.{◌≡◌, ◌<◌, ◌≤◌, ◌+◌, ◌↔◌, ℕ, IsTrue, slice_index};
 ghost use Rattle.std.specs.Int.{byte_at};
 ghost use Rattle.line_lanes.specs.Lanes.{IsMergedFrom, IsPutAt, lane_of};
-ghost use Rattle.line_lanes.specs.Merged.{merged_byte, word_at};
+ghost use Rattle.line_lanes.specs.Merged.{merged_byte};
+ghost use Rattle.line_lanes.specs.Words.{put_byte, word_at};
 
 use crate::lanes::merge_lane;
 
@@ -14,13 +15,41 @@ pub fn merge(line: &mut [u8; 64], over: &[u8; 64], mask: u64)
     }
 }
 
+/// The little-endian word at a place of the line.
+pub fn word_at(line: &[u8; 64], offset: u8) -> u32
+    requires { offset ≤ 60 }
+    ensures word { result ≡ word_at (slice_index line.now) offset }
+    ensures bytes { (place : ℕ) → offset ≤ place → place < offset + 4 → slice_index line.now place < 256 }
+{
+    let start = usize::from(offset);
+    u32::from_le_bytes([
+        line[start],
+        line[start + 1],
+        line[start + 2],
+        line[start + 3],
+    ])
+}
+
+/// Puts a word at a place of the line, the lowest byte first.
+pub fn put_word(line: &mut [u8; 64], offset: u8, word: u32)
+    requires { offset ≤ 60 }
+    ensures { (place : ℕ) → slice_index line.new place ≡ put_byte line.old offset word place }
+{
+    let start = usize::from(offset);
+    let [first, second, third, fourth] = word.to_le_bytes();
+    line[start] = first;
+    line[start + 1] = second;
+    line[start + 2] = third;
+    line[start + 3] = fourth;
+}
+
 /// The little-endian word at a place of the line, as it is once it is merged.
 pub fn merged_word(line: &[u8; 64], over: &[u8; 64], mask: u64, offset: u8) -> u32
     requires { offset ≤ 60 }
     ensures word { result ≡ word_at (merged_byte line.now over.now mask) offset }
     ensures bytes { (place : ℕ) → offset ≤ place → place < offset + 4 → merged_byte line.now over.now mask place < 256 }
 {
-    word_of(merged_half(line, over, mask, offset.into()))
+    word_of(merged_half(line, over, mask, offset))
 }
 
 /// Whether two lines have the same bytes, all 64 of them.
@@ -54,12 +83,15 @@ fn merged_lane(line: &[u8; 64], over: &[u8; 64], mask: u64, place: usize) -> u64
 }
 
 /// The four merged bytes at a place, as the first half of a lane.
-#[tactic(auto, using(crate::proofs::Puts::bit_after))]
-fn merged_half(line: &[u8; 64], over: &[u8; 64], mask: u64, place: usize) -> u64
-    requires { place + 4 ≤ 64 }
-    ensures { (k : ℕ) → k < 4 → byte_at k result ≡ merged_byte line.now over.now mask (place + k) }
+fn merged_half(line: &[u8; 64], over: &[u8; 64], mask: u64, offset: u8) -> u64
+    requires { offset ≤ 60 }
+    ensures { (k : ℕ) → k < 4 → byte_at k result ≡ merged_byte line.now over.now mask (offset + k) }
 {
-    merge_lane(half_at(line, place), half_at(over, place), mask >> place)
+    merge_lane(
+        word_at(line, offset).into(),
+        word_at(over, offset).into(),
+        mask >> offset,
+    )
 }
 
 /// The first half of a lane as a word.
@@ -85,23 +117,6 @@ fn lane_at(line: &[u8; 64], place: usize) -> u64
         line[place + 5],
         line[place + 6],
         line[place + 7],
-    ])
-}
-
-/// The four bytes at a place, the first lowest, as the first half of a lane.
-fn half_at(line: &[u8; 64], place: usize) -> u64
-    requires { place + 4 ≤ 64 }
-    ensures { (k : ℕ) → k < 4 → byte_at k result ≡ slice_index line.now (place + k) }
-{
-    u64::from_le_bytes([
-        line[place],
-        line[place + 1],
-        line[place + 2],
-        line[place + 3],
-        0,
-        0,
-        0,
-        0,
     ])
 }
 

@@ -1,5 +1,6 @@
 //! Sets of a few harts, worked by hand.
 
+use crate::asserts::same_at;
 use crate::harts::hart;
 use defer_list::*;
 
@@ -7,10 +8,10 @@ use defer_list::*;
 fn an_origin_is_new_once(rt: HostRuntime) {
     let mut told = Told::new();
     for (number, is_new) in [(3, true), (3, false), (0, true), (7, true), (0, false)] {
-        assert_eq!(rt; told.add(hart(number)), is_new, "at {number}");
+        same_at(&rt, number, told.add(hart(number)), is_new);
     }
     for (number, there) in [(0, true), (1, false), (3, true), (7, true)] {
-        assert_eq!(rt; told.told(hart(number)), there, "at {number}");
+        same_at(&rt, number, told.told(hart(number)), there);
     }
 }
 
@@ -23,7 +24,7 @@ fn a_purge_takes_one_origin_out(rt: HostRuntime) {
     told.purge(hart(5));
     told.purge(hart(5));
     for number in 0..8 {
-        assert_eq!(rt; told.told(hart(number)), number != 5, "at {number}");
+        same_at(&rt, number, told.told(hart(number)), number != 5);
     }
     assert!(rt; told.add(hart(5)));
 }

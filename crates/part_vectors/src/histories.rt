@@ -1,3 +1,4 @@
+use crate::asserts::same;
 use crate::harts::hart;
 use chronicle::*;
 use el_base::{
@@ -68,9 +69,9 @@ fn a_plain_run_is_told(rt: HostRuntime) -> Result<(), Fail> {
         missed: 1,
         ..Tally::default()
     };
-    assert_eq!(rt; lengths(&history), (37, 3, 9));
+    same(&rt, lengths(&history), (37, 3, 9));
     let tallies = [history.tally(only), history.tally(hart(1))];
-    assert_eq!(rt; tallies, [ran, Tally::default()]);
+    same(&rt, tallies, [ran, Tally::default()]);
     let last = Entry {
         event: Event {
             kind: Kind::Step,
@@ -79,7 +80,7 @@ fn a_plain_run_is_told(rt: HostRuntime) -> Result<(), Fail> {
         outcome: Outcome::Ran,
     };
     assert!(rt; history.length() > 36);
-    assert_eq!(rt; history.entry(36), last);
+    same(&rt, history.entry(36), last);
     Ok(())
 }
 
@@ -173,16 +174,16 @@ fn each_outcome_has_its_count(rt: HostRuntime) -> Result<(), Fail> {
         blocked: 1,
         ..Tally::default()
     };
-    assert_eq!(rt; lengths(&history), (16, 0, 7));
+    same(&rt, lengths(&history), (16, 0, 7));
     let tallies = [history.tally(first), history.tally(second)];
-    assert_eq!(rt; tallies, [of_first, of_second]);
+    same(&rt, tallies, [of_first, of_second]);
     Ok(())
 }
 
 #[test]
 fn a_history_of_no_places_is_full(rt: HostRuntime) -> Result<(), Fail> {
     let history = History::make(rt.alloc(), 0)?;
-    assert_eq!(rt; lengths(&history), (0, 0, 0));
+    same(&rt, lengths(&history), (0, 0, 0));
     Ok(())
 }
 
@@ -207,9 +208,10 @@ fn what_was_let_go_counts_in_the_serial_order(rt: HostRuntime) -> Result<(), Fai
         ),
     ];
     let history = history_of(&rt, rt.alloc(), 4, &events)?;
-    assert_eq!(rt;
+    same(
+        &rt,
         (history.serial_len(), history.tally(third)),
-        (21, Tally::default())
+        (21, Tally::default()),
     );
     Ok(())
 }
@@ -238,16 +240,18 @@ fn each_hart_has_a_tally(rt: HostRuntime) -> Result<(), Fail> {
         blocked: 1,
         ..Tally::default()
     };
-    assert_eq!(rt; history.serial_len(), 4_294_967_295);
-    assert_eq!(rt;
+    same(&rt, history.serial_len(), 4_294_967_295);
+    same(
+        &rt,
         [history.tally(first), history.tally(last)],
-        [of_first, of_last]
+        [of_first, of_last],
     );
-    assert_eq!(rt; history.tally(hart(6)), Tally::default());
+    same(&rt, history.tally(hart(6)), Tally::default());
     assert!(rt; history.length() > 2);
-    assert_eq!(rt;
+    same(
+        &rt,
         history.entry(2).outcome,
-        Outcome::Blocked { why, by: first }
+        Outcome::Blocked { why, by: first },
     );
     Ok(())
 }

@@ -1,6 +1,7 @@
-//! Lines merged, read and compared, with values worked by hand. At each place of the line that lies under, its
+//! Lines merged, read, written and compared, with values worked by hand. At each place of the line that lies under, its
 //! bytes are the place's number; over it are the same numbers, and 0x80 with each.
 
+use crate::asserts::{self, same_at};
 use line_lanes::*;
 
 /// At each place the place's number and what is added to it.
@@ -29,6 +30,13 @@ const WORDS: &[(u64, u8, u32)] = &[
     (0x0000_0001_0000_0000, 29, 0xa01f_1e1d),
 ];
 
+/// A place, the word there of `line(0)`, a word that is put there, and its bytes.
+const PLACES: &[(u8, u32, u32, [u8; 4])] = &[
+    (0, 0x0302_0100, 0x0403_02f1, [0xf1, 0x02, 0x03, 0x04]),
+    (7, 0x0a09_0807, 0x8000_0000, [0x00, 0x00, 0x00, 0x80]),
+    (60, 0x3f3e_3d3c, 0x00fe_0d0c, [0x0c, 0x0d, 0xfe, 0x00]),
+];
+
 #[test]
 fn the_first_and_the_last_byte_are_merged_alone(rt: HostRuntime) {
     let mut merged = [0; 64];
@@ -36,7 +44,7 @@ fn the_first_and_the_last_byte_are_merged_alone(rt: HostRuntime) {
     let mut wanted = [0; 64];
     wanted[0] = 0xff;
     wanted[63] = 0xff;
-    assert_eq!(rt; merged, wanted);
+    asserts::same(&rt, merged, wanted);
 }
 
 #[test]
@@ -45,11 +53,27 @@ fn words_are_merged_as_lines_are(rt: HostRuntime) {
         let mut merged = line(0);
         merge(&mut merged, &line(0x80), mask);
         let found = word_under(&line(0), mask, offset);
-        assert_eq!(rt;
+        same_at(
+            &rt,
+            (mask, offset),
             (found, word_under(&merged, 0, offset)),
             (word, word),
-            "{mask:#x} {offset}"
         );
+    }
+}
+
+#[test]
+fn words_are_read_and_put_low_byte_first(rt: HostRuntime) {
+    for &(place, word, other, bytes) in PLACES {
+        let offset = place % 61;
+        let mut changed = line(0);
+        same_at(&rt, offset, word_at(&changed, offset), word);
+        put_word(&mut changed, offset, other);
+        let mut wanted = line(0);
+        let start = usize::from(offset);
+        wanted[start..start + 4].copy_from_slice(&bytes);
+        same_at(&rt, offset, changed, wanted);
+        same_at(&rt, offset, word_at(&changed, offset), other);
     }
 }
 

@@ -1,5 +1,6 @@
 //! The rows are those of the MOESI table: each letter against each event.
 
+use crate::asserts::same_at;
 use el_base::Need;
 use moesi::*;
 
@@ -15,16 +16,17 @@ fn each_letter_meets_each_event(rt: HostRuntime) {
     ];
     for (letter, reads, writes, after_read, after_write, dirty) in rows {
         let (may_read, may_write) = (may(letter, Need::Read), may(letter, Need::Write));
-        assert_eq!(rt;
+        same_at(
+            &rt,
+            letter,
             (
                 may_read,
                 may_write,
                 on_read(letter),
                 on_write(letter),
-                is_dirty(letter)
+                is_dirty(letter),
             ),
             (reads, writes, after_read, after_write, dirty),
-            "{letter:?}"
         );
     }
 }
@@ -37,6 +39,6 @@ fn a_line_is_filled_by_need_and_by_the_others(rt: HostRuntime) {
         (Need::Write, false, Letter::M),
         (Need::Write, true, Letter::M),
     ] {
-        assert_eq!(rt; filled(need, others), letter, "{need:?} {others}");
+        same_at(&rt, (need, others), filled(need, others), letter);
     }
 }

@@ -1,5 +1,6 @@
 //! Mailboxes of a few messages, worked by hand.
 
+use crate::asserts::same;
 use crate::harts::hart;
 use mail::*;
 use std::alloc::Global;
@@ -37,12 +38,12 @@ fn holds(rt: &impl Abort, mail: &mut Mail, messages: &[(u8, bool)]) {
     for (number, is_marker) in messages {
         takes(rt, mail, wanted(*number, *is_marker));
     }
-    assert_eq!(rt; (mail.is_empty(), mail.next()), (true, None));
+    same(rt, (mail.is_empty(), mail.next()), (true, None));
 }
 
 /// Takes the oldest message, which must be this.
 fn takes(rt: &impl Abort, mail: &mut Mail, message: Message) {
-    assert_eq!(rt; (mail.is_empty(), mail.next()), (false, Some(message)));
+    same(rt, (mail.is_empty(), mail.next()), (false, Some(message)));
 }
 
 #[test]

@@ -1,5 +1,6 @@
 //! Orders of a few requests, worked by hand.
 
+use crate::asserts::same;
 use crate::harts::hart;
 use bus_order::*;
 use el_base::{LineAddr, Need, line_of};
@@ -51,14 +52,15 @@ fn a_request_goes_behind_all_or_in_front_of_its_line(rt: HostRuntime) {
         asks(2, 5),
         asks(4, 7),
     ];
-    assert_eq!(rt; order.as_slice(), wanted.as_slice());
+    same(&rt, order.as_slice(), wanted.as_slice());
     for (number, first, last) in [(5, 5, 2), (6, 3, 1), (7, 4, 4)] {
-        assert_eq!(rt;
+        same(
+            &rt,
             ends(&order, number),
-            (Some(asks(first, number)), Some(asks(last, number)))
+            (Some(asks(first, number)), Some(asks(last, number))),
         );
     }
-    assert_eq!(rt; ends(&order, 8), (None, None));
+    same(&rt, ends(&order, 8), (None, None));
 }
 
 /// The first request of a line and its last one.
@@ -77,8 +79,9 @@ fn eight_harts_have_a_place_each(rt: HostRuntime) {
     order.remove(head.hart);
     let after = (order.of(head.hart), order.first_of(head.line));
     order.remove(head.hart);
-    assert_eq!(rt;
+    same(
+        &rt,
         (before, after, order.as_slice().len()),
-        ((8, Some(head)), (None, Some(asks(1, 1))), 7)
+        ((8, Some(head)), (None, Some(asks(1, 1))), 7),
     );
 }

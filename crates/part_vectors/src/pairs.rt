@@ -1,3 +1,4 @@
+use crate::asserts::{same, same_at};
 use pair_table::*;
 
 const NOTHING: Seen = Seen {
@@ -18,9 +19,10 @@ fn counters_stay_from_0_to_3_and_are_shared(rt: HostRuntime) {
         table.settle(0x100, Verdict::Down);
     }
     let shared = (table.confidence(0x100), table.confidence(0x200));
-    assert_eq!(rt;
+    same(
+        &rt,
         ([first, second, third], shared, table.confidence(0x104)),
-        ([2, 3, 3], (0, 0), 2)
+        ([2, 3, 3], (0, 0), 2),
     );
 }
 
@@ -30,18 +32,20 @@ fn a_watch_is_settled_when_it_is_too_long(rt: HostRuntime) {
     table.watch(0x100, 0x2_0000, 0);
     let watched = table.watched();
     let verdict = table.saw(NOTHING, 2);
-    assert_eq!(rt;
+    same(
+        &rt,
         (watched, verdict, table.confidence(0x100), table.watched()),
-        (Some((0x2_0000, 0)), Some(Verdict::Down), 1, None)
+        (Some((0x2_0000, 0)), Some(Verdict::Down), 1, None),
     );
     let mut table = PairTable::new();
     table.watch(0x100, 0x2_0000, 0);
     let first = table.saw(NOTHING, 3);
     let confidence = table.confidence(0x100);
     let (second, third) = (table.saw(NOTHING, 3), table.saw(NOTHING, 3));
-    assert_eq!(rt;
+    same(
+        &rt,
         (first, confidence, second, third),
-        (None, 2, Some(Verdict::Down), None)
+        (None, 2, Some(Verdict::Down), None),
     );
 }
 
@@ -87,10 +91,11 @@ fn a_release_comes_before_all_else(rt: HostRuntime) {
         let mut table = PairTable::new();
         table.watch(0x1_0000, 0x2_0000, 7);
         let found = table.saw(seen, 2_000);
-        assert_eq!(rt;
+        same_at(
+            &rt,
+            seen,
             (found, table.confidence(0x1_0000), table.watched().is_some()),
             (verdict, confidence, verdict.is_none()),
-            "{seen:?}"
         );
     }
 }
@@ -101,8 +106,9 @@ fn a_watch_that_is_ended_teaches_nothing(rt: HostRuntime) {
     table.watch(0x100, 0x2_0000, 0);
     table.unwatch();
     let (watched, verdict) = (table.watched(), table.saw(NOTHING, 2));
-    assert_eq!(rt;
+    same(
+        &rt,
         (watched, verdict, table.confidence(0x100)),
-        (None, None, 2)
+        (None, None, 2),
     );
 }

@@ -3,6 +3,7 @@ ghost use Rattle.std.specs.Option.{option_map};
 ghost use Rattle.stamp.specs.Stamps as stamps;
 ghost use Rattle.policy.specs.Winners.{wins_of};
 
+use crate::asserts::same_at;
 use crate::harts::hart;
 use el_base::Mode;
 use policy::*;
@@ -44,10 +45,6 @@ fn the_request_wins_without_stamps_and_the_earlier_stamp_with_them(rt: HostRunti
     for (request, holder, wins) in rows {
         let with_stamps = asked(Mode::Tlr, &TlrPolicy, request, holder);
         let without = asked(Mode::Sle, &SlePolicy, request, holder);
-        assert_eq!(rt;
-            (with_stamps, without),
-            (wins, true),
-            "{request:?} {holder:?}"
-        );
+        same_at(&rt, (request, holder), (with_stamps, without), (wins, true));
     }
 }

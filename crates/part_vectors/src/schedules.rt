@@ -1,3 +1,4 @@
+use crate::asserts::{same, same_at};
 use crate::harts::hart;
 use el_base::{Event, Kind};
 use schedule::{OrderFault, draw, drawn_at, read_order};
@@ -15,7 +16,7 @@ fn a_seed_draws_its_events(rt: HostRuntime) {
         (4, 16408922859458223821, Kind::Order, 1),
     ] {
         let drawn = (draw(1_234_567, place), drawn_at(1_234_567, 3, place));
-        assert_eq!(rt; drawn, (number, event(kind, hart)), "{place}");
+        same_at(&rt, place, drawn, (number, event(kind, hart)));
     }
 }
 
@@ -34,7 +35,7 @@ fn a_text_lists_events(rt: HostRuntime) -> Result<(), Fail> {
         event(Kind::Serve, 0),
         event(Kind::Deliver, 1),
     ];
-    assert_eq!(rt; events.as_slice(), wanted.as_slice());
+    same(&rt, events.as_slice(), wanted.as_slice());
     Ok(())
 }
 
@@ -51,6 +52,6 @@ fn a_bad_line_is_told(rt: HostRuntime) {
         (b"step 10", 1),
     ] {
         let fault = read_order(rt.alloc(), text, 2).err();
-        assert_eq!(rt; fault, Some(OrderFault::BadLine { number }));
+        same(&rt, fault, Some(OrderFault::BadLine { number }));
     }
 }

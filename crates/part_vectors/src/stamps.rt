@@ -1,5 +1,6 @@
 //! Stamps that are just less, equal and greater, by clock and by hart.
 
+use crate::asserts::same_at;
 use crate::harts::hart;
 use stamp::*;
 
@@ -26,7 +27,7 @@ fn stamps_are_ordered_by_clock_and_then_by_hart(rt: HostRuntime) {
     ];
     for (left, right, before) in rows {
         let is_less = less(stamp_of(left), stamp_of(right));
-        assert_eq!(rt; is_less, before, "{left:?} {right:?}");
+        same_at(&rt, (left, right), is_less, before);
     }
 }
 
@@ -39,6 +40,6 @@ fn the_next_clock_is_one_more_than_the_greater(rt: HostRuntime) {
         (9, 4, 10),
         (0, u64::MAX - 1, u64::MAX),
     ] {
-        assert_eq!(rt; next_clock(own, seen), next, "{own} {seen}");
+        same_at(&rt, (own, seen), next_clock(own, seen), next);
     }
 }

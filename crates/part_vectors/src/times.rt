@@ -1,3 +1,4 @@
+use crate::asserts::same;
 use crate::harts::hart;
 use crate::histories::history_of;
 use el_base::{Cause, Freed, HartId, Kind, Losers, Need, Outcome, Why, line_of};
@@ -32,14 +33,15 @@ fn check(rt: &impl Abort, times: &Times, rows: &[Row]) {
     for (number, row) in rows.iter().enumerate() {
         assert!(rt; number < 8);
         let loser = HartId::at(number);
-        assert_eq!(rt;
+        same(
+            rt,
             (times.units(loser), times.lost(loser)),
-            (row.units, row.lost)
+            (row.units, row.lost),
         );
         for number in 0..4_u8 {
             let winner = HartId { number };
             let losses = (times.times(loser, winner), times.instr(loser, winner));
-            assert_eq!(rt; losses, row.to[number as usize]);
+            same(rt, losses, row.to[number as usize]);
         }
     }
 }

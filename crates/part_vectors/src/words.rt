@@ -1,3 +1,4 @@
+use crate::asserts::{same, same_at};
 use el_base::*;
 use std::mem::size_of;
 use std::process::Abort;
@@ -15,7 +16,7 @@ fn harts_are_numbered_0_to_7(rt: HostRuntime) {
             Some(hart) => (true, hart.number()),
             None => (false, number),
         };
-        assert_eq!(rt; found, (known, number));
+        same(&rt, found, (known, number));
     }
 }
 
@@ -28,7 +29,7 @@ fn lines_have_64_bytes(rt: HostRuntime) {
         (0x10000, 0x400),
         (0xffff_ffff, 0x03ff_ffff),
     ] {
-        assert_eq!(rt; line_of(address).number, line, "at {address}");
+        same_at(&rt, address, line_of(address).number, line);
     }
 }
 
@@ -38,19 +39,20 @@ fn a_set_keeps_each_hart_apart(rt: HostRuntime) {
     let ends = Harts::empty().with(first).with(last);
     for (hart, inside) in [(first, true), (third, false), (last, true)] {
         let (with, without) = (ends.with(hart), ends.without(hart));
-        assert_eq!(rt;
+        same(
+            &rt,
             [ends.has(hart), with == ends, without == ends],
-            [inside, inside, !inside]
+            [inside, inside, !inside],
         );
         let left = (Harts::empty().has(hart), without.has(hart));
-        assert_eq!(rt; left, (false, false));
+        same(&rt, left, (false, false));
     }
 }
 
 #[test]
-fn want_of_memory_is_one_answer(rt: HostRuntime) {
+fn out_of_memory_is_one_answer(rt: HostRuntime) {
     let from_alloc: NoMemory = std::alloc::AllocError.into();
-    assert_eq!(rt; from_alloc, NoMemory);
+    same(&rt, from_alloc, NoMemory);
 }
 
 #[test]
@@ -62,10 +64,10 @@ fn a_hart_has_the_last_winner_given(rt: HostRuntime) {
         .with(third, first);
     for (loser, winner) in [(first, None), (third, Some(first)), (last, Some(first))] {
         let winners = (Losers::none().winner_of(loser), losers.winner_of(loser));
-        assert_eq!(rt; winners, (None, winner));
+        same(&rt, winners, (None, winner));
     }
     let other_way_round = Losers::none().with(last, first).with(third, first);
-    assert_eq!(rt; losers, other_way_round);
+    same(&rt, losers, other_way_round);
 }
 
 #[test]
@@ -74,21 +76,21 @@ fn a_hart_is_freed_with_the_last_count_given(rt: HostRuntime) {
     let freed = Freed::none().with(third, 15).with(last, 1).with(third, 4);
     for (hart, count) in [(first, 0), (third, 4), (last, 1)] {
         let counts = (Freed::none().count_of(hart), freed.count_of(hart));
-        assert_eq!(rt; counts, (0, count));
+        same(&rt, counts, (0, count));
     }
-    assert_eq!(rt; freed, Freed::none().with(last, 1).with(third, 4));
+    same(&rt, freed, Freed::none().with(last, 1).with(third, 4));
 }
 
 /// The configuration is inside its ranges, or has this fault.
 fn judge(rt: &impl Abort, config: Config, inside: bool, fault: ConfigFault) {
     let checked = if inside { Ok(()) } else { Err(fault) };
-    assert_eq!(rt; config.check(), checked, "{config:?}");
+    same_at(rt, config, config.check(), checked);
 }
 
 #[test]
 fn each_field_has_its_range(rt: HostRuntime) {
     let usual = Config::usual();
-    assert_eq!(rt; usual.check(), Ok(()));
+    same(&rt, usual.check(), Ok(()));
     for (harts, inside) in [(0, false), (1, true), (8, true), (9, false)] {
         judge(&rt, Config { harts, ..usual }, inside, ConfigFault::Harts);
     }
@@ -116,11 +118,7 @@ fn sets_are_a_power_of_two_up_to_64(rt: HostRuntime) {
     let usual = Config::usual();
     for sets in 0..=255 {
         let known = [1, 2, 4, 8, 16, 32, 64].contains(&sets);
-        assert_eq!(rt;
-            Config { sets, ..usual }.check().is_ok(),
-            known,
-            "at {sets}"
-        );
+        same_at(&rt, sets, Config { sets, ..usual }.check().is_ok(), known);
     }
 }
 
@@ -145,22 +143,27 @@ fn the_first_fault_is_answered(rt: HostRuntime) {
         ..without_harts
     };
     for (config, number) in [(nothing_right, 1), (without_harts, 2), (without_sets, 3)] {
-        assert_eq!(rt; config.check().map_err(|fault| fault as u8), Err(number));
+        same(
+            &rt,
+            config.check().map_err(|fault| fault as u8),
+            Err(number),
+        );
     }
-    assert_eq!(rt;
+    same(
+        &rt,
         [
             ConfigFault::Lines as u8,
             ConfigFault::Long as u8,
-            ConfigFault::Steps as u8
+            ConfigFault::Steps as u8,
         ],
-        [4, 5, 6]
+        [4, 5, 6],
     );
 }
 
 #[test]
 fn an_entry_takes_16_bytes(rt: HostRuntime) {
     let sizes = [size_of::<Losers>(), size_of::<Freed>(), size_of::<Entry>()];
-    assert_eq!(rt; sizes, [4, 4, 16]);
+    same(&rt, sizes, [4, 4, 16]);
 }
 
 #[test]
@@ -177,6 +180,6 @@ fn kinds_are_numbered_0_to_3(rt: HostRuntime) {
             Some(kind) => kind.number(),
             None => number,
         };
-        assert_eq!(rt; (Kind::with_number(number), own), (kind, number));
+        same(&rt, (Kind::with_number(number), own), (kind, number));
     }
 }

@@ -1,6 +1,8 @@
 ghost use Rattle.std.specs.Prelude.{◌≡◌, ◌≤◌, ◌<◌, ◌+◌, ℕ, length, slice_index};
 ghost use Rattle.core_step.specs.Port.{byte_of, stored};
 
+use line_lanes::put_word;
+
 /// The bytes of a word, the lowest first.
 pub(crate) fn low_bytes(word: u32) -> [u8; 4]
     ensures four { length result ≡ 4 }
@@ -10,6 +12,7 @@ pub(crate) fn low_bytes(word: u32) -> [u8; 4]
 }
 
 /// A line with a word at a place, the lowest byte first.
+#[tactic(auto, using(line_lanes::proofs::Laws::put_divided))]
 pub(crate) fn with_word(line: &[u8; 64], place: u8, word: u32) -> [u8; 64]
     requires { place + 4 ≤ 64 }
     ensures { (at : ℕ) → slice_index result at ≡ stored (slice_index line.now) place 4 word at }
@@ -17,17 +20,4 @@ pub(crate) fn with_word(line: &[u8; 64], place: u8, word: u32) -> [u8; 64]
     let mut shown = *line;
     put_word(&mut shown, place, word);
     shown
-}
-
-/// Puts a word at a place of a line, the lowest byte first.
-fn put_word(line: &mut [u8; 64], place: u8, word: u32)
-    requires { place + 4 ≤ 64 }
-    ensures { (at : ℕ) → slice_index line.new at ≡ stored (slice_index line.old) place 4 word at }
-{
-    let start = usize::from(place);
-    let [first, second, third, fourth] = low_bytes(word);
-    line[start] = first;
-    line[start + 1] = second;
-    line[start + 2] = third;
-    line[start + 3] = fourth;
 }

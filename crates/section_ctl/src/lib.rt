@@ -1,7 +1,7 @@
 //! One hart's live section, its armed one, or neither: its checkpoint, its buffered stores and its private run.
 //!
-//! It stands on `reg_mark` (the views), `write_hold` (the stores), `cache_sets` (the hart's cache) and
-//! `core_step` (an action over a port), and on the laws of `section_view`. A section is seen as a
+//! It stands on `reg_mark` (the views), `write_hold` (the stores), `cache_sets` (the hart's cache), `line_lanes` (words in
+//! lines) and `core_step` (an action over a port), and on the laws of `section_view`. A section is seen as a
 //! `SectionState`. Its calls ask nothing of the machine's state: their clauses named `shows` say, for every
 //! committed state in which the relation `KeepsRun` stands, that it stands after the call, and at the commit
 //! that the private run takes effect. Likewise the view of an armed section, with the value that its LR found,

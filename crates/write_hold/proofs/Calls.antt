@@ -1,14 +1,12 @@
 -- A hold and its pool after each call.
 use Rattle.std.proofs.Common.{◌≡◌, ℕ, ◌+◌, ◌==◌, if◌then◌else◌, ◌&&◌, nat_le, nat_lt, Bool, true, false, List, length}
 use Rattle.std.proofs.Common.{slice_index, None, Some}
-use Rattle.std.proofs.Common.{bit_or, refl, ap, sym, subst, ◌∙◌, arith}
+use Rattle.std.proofs.Common.{bit_or, refl, ap, sym, subst, ◌∙◌}
 use Rattle.std.specs.Int.{bit_at}
 use Rattle.std.specs.Option.{unwrap_or}
-use Rattle.line_lanes.specs.Merged.{merged_byte, word_at}
-use Rattle.line_lanes.proofs.Laws.{merged-none, word-nested}
+use Rattle.line_lanes.specs.Merged.{merged_byte}
 use Rattle.line_pool.specs.Calls.{IsWritten}
 use Rattle.line_pool.specs.Pooled.{Pooled, bytes_of}
-use Rattle.rv_alu.specs.Loaded.{loaded}
 use Rattle.write_hold.specs.declared.entry.Entry as code
 use Rattle.write_hold.specs.Entries.{IsStored, byte_over}
 use Rattle.write_hold.specs.Held.{laid}
@@ -24,31 +22,6 @@ merged-over pool entry under place = by_bit (bit_at entry.mask place == 1)
         (slice_index under place)
     by_bit true = refl
     by_bit false = refl
-
--- a word of such bytes is what is loaded
-pub loaded-word : (byte seen : ℕ → ℕ) (place : ℕ) → ((p : ℕ) → byte p ≡ seen p) →
-    word_at byte place ≡ loaded seen place 4
-loaded-word byte seen place each =
-    word-nested byte place
-    ∙ omega (
-      arith,
-      each place,
-      each (place + 1),
-      each (place + 2),
-      each (place + 3),
-      ap seen second,
-      ap seen third,
-    )
-  where
-    second : place + 1 + 1 ≡ place + 2
-    second = omega arith
-
-    third : place + 1 + 1 + 1 ≡ place + 3
-    third = omega arith
-
--- a line alone
-pub unmerged : (under : List ℕ) (place : ℕ) → merged_byte under under 0 place ≡ slice_index under place
-unmerged under place = merged-none under under place
 
 -- an entry after bytes were written into its slot, and its mask got their places
 pub entry-stored : (before after : Pooled) (old new : code.Entry) (offset run : ℕ) (bytes now : List ℕ)

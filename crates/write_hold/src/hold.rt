@@ -1,4 +1,4 @@
-ghost use Rattle.std.specs.Prelude.{◌≡◌, ◌≤◌, ◌<◌, ◌+◌, ◌==◌, ◌↔◌, ℕ, [], length, position, slice_index, true, vec_capacity, IfErr, IfOk, IfSome};
+ghost use Rattle.std.specs.Prelude.{◌≡◌, ◌≤◌, ◌<◌, ◌+◌, ◌==◌, ◌↔◌, ℕ, [], length, position, true, vec_capacity, IfErr, IfOk, IfSome};
 ghost use Rattle.std.specs.Prelude.{IsErr, IsNone, OnOk};
 ghost use Rattle.line_pool.specs.Others.{LeavesOthers};
 ghost use Rattle.line_pool.specs.Pooled.{Pooled};
@@ -7,7 +7,7 @@ ghost use Rattle.rv_alu.specs.Loaded.{loaded};
 use crate::entry::Entry;
 use crate::lines::Lines;
 use el_base::{Config, LineAddr, NoMemory};
-use line_lanes::merged_word;
+use line_lanes::word_at;
 use line_pool::Pool;
 use std::alloc::Global;
 use std::marker::Model;
@@ -173,13 +173,4 @@ fn place_of(entries: &[Entry], line: LineAddr) -> Option<usize>
     entries
         .iter()
         .position(|entry| entry.line.number == line.number)
-}
-
-/// The little-endian word at a place of a line.
-fn word_at(bytes: &[u8; 64], offset: u8) -> u32
-    requires { offset ≤ 60 }
-    ensures value { result ≡ loaded (slice_index bytes.now) offset 4 }
-    ensures bytes { (place : ℕ) → offset ≤ place → place < offset + 4 → slice_index bytes.now place < 256 }
-{
-    merged_word(bytes, bytes, 0, offset)
 }

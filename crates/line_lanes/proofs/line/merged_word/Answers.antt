@@ -1,5 +1,4 @@
-use Rattle.std.proofs.Common.{ap, ◌∙◌}
-use Rattle.line_lanes.specs.Merged.{merged_byte, word_at}
+use Rattle.line_lanes.specs.Merged.{merged_byte}
 use Rattle.line_lanes.proofs.Puts.{bytes_fit}
 use Rattle.line_lanes.proofs.line.merged_word.Goals as goal
 
@@ -7,6 +6,6 @@ pub returns : goal.returns
 returns c =
     let byte = merged_byte c.args.line.now c.args.over.now c.args.mask in
     record {
-      word = c.word_of.ensures byte c.into.result c.merged_half.ensures ∙ ap (word_at byte) c.into.ensures;
-      bytes = bytes_fit byte c.merged_half.result c.into.result c.args.offset c.into.ensures c.merged_half.ensures;
+      word = c.word_of.ensures byte c.args.offset c.merged_half.ensures;
+      bytes = bytes_fit byte c.merged_half.result c.args.offset c.merged_half.ensures;
     }

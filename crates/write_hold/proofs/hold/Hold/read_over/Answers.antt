@@ -1,5 +1,6 @@
-use Rattle.std.proofs.Common.{◌<◌, Some, None, ap, subst, sym, ◌∙◌}
+use Rattle.std.proofs.Common.{◌<◌, slice_index, Some, None, ap, subst, sym, ◌∙◌}
 use Rattle.el_base.proofs.Laws.ListLaws.{find_by_no_position}
+use Rattle.line_lanes.proofs.Laws.{word_nested}
 use Rattle.rv_alu.specs.Loaded.{loaded}
 use Rattle.write_hold.specs.Held.{seen_at}
 use Rattle.write_hold.specs.Slotted.{IsLent, lent}
@@ -49,6 +50,8 @@ returns-in-None c =
     seen_as pool entries line None c.args.under.now (find_by_no_position (is_of line) entries at)
     ∙ ap (λ hold. seen_at (lent pool hold).entries line c.args.under.now) c.self.view_is in
     record {
-      value = c.word_at.ensures.value ∙ ap (λ byte. loaded byte c.args.offset 4) seen;
+      value =
+          c.word_at.ensures.word ∙ word_nested (slice_index c.args.under.now) c.args.offset
+          ∙ ap (λ byte. loaded byte c.args.offset 4) seen;
       bytes = λ place from before. subst (λ byte. byte place < 256) seen (c.word_at.ensures.bytes place from before);
     }

@@ -1,5 +1,5 @@
 -- What a call reads of a line in the fields of a cache.
-use Rattle.std.proofs.Common.{◌≡◌, ℕ, ◌<◌, false, true, ltb, List, [], length, map, Option, None, Some, option_map}
+use Rattle.std.proofs.Common.{◌≡◌, ℕ, ◌<◌, false, true, ltb, List, length, map, Option, None, Some, option_map}
 use Rattle.std.proofs.Common.{is_some, refl, ap, sym, subst, ◌∙◌, arith}
 use Rattle.std.specs.Option.{option_map_or}
 use Rattle.std.proofs.lemmas.Bool.Decides.{nat_tests}
@@ -120,7 +120,3 @@ module _ {ways owner marks writes : ℕ} {sets : List Set} {v : Slotted} (stands
             subst (λ w. IsWrittenIn pool new w line bytes) is
             (written-in ways marks writes owner cache pool stands.sound owes_shown line there.0 there.1 new bytes
             (subst (λ s. IsWritten pool new s bytes) slot_is written))
-
--- a pool without owners, for what holds with any
-abbrev pub no_pool : Pooled
-no_pool = record { shares = []; lines = [] }

@@ -17,6 +17,10 @@ use Rattle.line_pool.proofs.Places.{apart_by, has_by}
 pub use Rattle.line_pool.proofs.Places.{has-out}
 use Rattle.line_pool.proofs.Steps.{same_slots}
 
+-- a pool without owners, for what holds with any
+abbrev pub no_pool : Pooled
+no_pool = record { shares = []; lines = [] }
+
 -- the quota of an owner is that of its share
 pub quota-share : (pool : Pooled) (owner : ℕ) → quota_of pool owner ≡ (share_of pool owner).quota
 quota-share pool owner = get_or-map (λ (share : Share). share.quota) pool.shares owner no_share

@@ -1,28 +1,23 @@
 -- the bits that a cache tells of a line are those of its way
-use Rattle.std.proofs.Common.{◌≡◌, ℕ, Bool, false, true, Option, None, Some, refl}
-use Rattle.cache_sets.specs.Bits.{bits_of, has_need}
+use Rattle.std.proofs.Common.{◌≡◌, ◌+◌, Bool, false, true, if◌then◌else◌, Option, refl}
+use Rattle.cache_sets.specs.Bits.{bits_of, bits_of_number, has_need}
+use Rattle.cache_sets.specs.declared.bits.Bits.{Bits}
 use Rattle.residency.specs.Cache.{bit_in}
 use Rattle.residency.specs.Residency.{Way}
 use Rattle.el_base.specs.declared.outcomes.Need.TheVariants.{Read, Write}
 
-read_by : (read write : Bool) (line : ℕ) (letter : _) →
-    has_need Read (bits_of (Some (record { line = line; letter = letter; read = read; write = write }))) ≡ read
-read_by true true line letter = refl
-read_by true false line letter = refl
-read_by false true line letter = refl
-read_by false false line letter = refl
+abbrev bits_with : Bool → Bool → Bits
+bits_with read write = bits_of_number ((if read then 1 else 0) + (if write then 2 else 0))
 
-write_by : (read write : Bool) (line : ℕ) (letter : _) →
-    has_need Write (bits_of (Some (record { line = line; letter = letter; read = read; write = write }))) ≡ write
-write_by true true line letter = refl
-write_by true false line letter = refl
-write_by false true line letter = refl
-write_by false false line letter = refl
+both_needs : (read write : Bool) →
+    (has_need Read (bits_with read write) ≡ read) × (has_need Write (bits_with read write) ≡ write)
+both_needs true true = (refl, refl)
+both_needs true false = (refl, refl)
+both_needs false true = (refl, refl)
+both_needs false false = (refl, refl)
 
 pub read_need : (way : Option Way) → has_need Read (bits_of way) ≡ bit_in Read way
-read_need None = refl
-read_need (Some way) = read_by way.read way.write way.line way.letter
+read_need way = (both_needs (bit_in Read way) (bit_in Write way)).0
 
 pub write_need : (way : Option Way) → has_need Write (bits_of way) ≡ bit_in Write way
-write_need None = refl
-write_need (Some way) = write_by way.read way.write way.line way.letter
+write_need way = (both_needs (bit_in Read way) (bit_in Write way)).1

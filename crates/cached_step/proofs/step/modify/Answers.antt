@@ -1,18 +1,17 @@
 -- the line is touched, and then modified
-use Rattle.std.proofs.Common.{◌∙◌, [], ap, option_map}
+use Rattle.std.proofs.Common.{◌∙◌, ap, option_map}
 use Rattle.residency.specs.Cache.{lettered}
 use Rattle.cache_sets.specs.Cached.{copy_with_letter}
 use Rattle.cache_sets.specs.Slotted.{lent}
 use Rattle.cached_step.proofs.Runs.{stays_resident}
 use Rattle.cached_step.proofs.step.modify.Goals as goal
-use Rattle.line_pool.specs.Pooled.{Pooled}
+use Rattle.line_pool.proofs.Laws.{no_pool}
 use Rattle.moesi.specs.declared.letter.Letter.TheVariants.{M}
 
 pub set_letter-requires-clause-resident : goal.set_letter-requires-clause-resident
 set_letter-requires-clause-resident c =
-    let pool : Pooled = record { shares = []; lines = [] } in
-    stays_resident (lent pool c.args.sets.now) (lent pool c.touch.new.self) c.args.line.number
-    ((c.touch.ensures.touched pool).copies c.args.line.number) c.requires
+    stays_resident (lent no_pool c.args.sets.now) (lent no_pool c.touch.new.self) c.args.line.number
+    ((c.touch.ensures.touched no_pool).copies c.args.line.number) c.requires
 
 pub returns-clause-modified : goal.returns-clause-modified
 returns-clause-modified c pool =

@@ -1,9 +1,10 @@
 use Rattle.std.proofs.Common.{None, Some, ap, sym}
 use Rattle.moesi.specs.declared.letter.Letter.TheVariants.{I}
 use Rattle.residency.specs.Cache.{letter_in}
+use Rattle.line_pool.proofs.Laws.{no_pool}
 use Rattle.cache_sets.specs.Slotted.{lent}
 use Rattle.cache_sets.proofs.AbsentLetters.{absent_letter}
-use Rattle.cache_sets.proofs.Readings.{cached-always, no_pool, way-found}
+use Rattle.cache_sets.proofs.Readings.{cached-always, way-found}
 use Rattle.cache_sets.proofs.sets.Sets.letter.Goals as goal
 
 pub returns-in-Some : goal.returns-in-Some

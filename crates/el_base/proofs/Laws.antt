@@ -7,6 +7,7 @@ pub mod Lines
 pub mod MadeLosers
 pub mod ListLaws
 pub mod Ranges
+pub mod Recordable
 pub mod SameLosers
 pub mod Kinds
 pub mod Options

@@ -6,6 +6,7 @@ pub mod Freed
 pub mod HartId
 pub mod Harts
 pub mod Kinds
+pub mod LetGo
 pub mod Line
 pub mod LineAddr
 pub mod Losers
@@ -13,4 +14,5 @@ pub mod Modes
 pub mod NibblePairs
 pub mod Nibbles
 pub mod Numbered
+pub mod Recordable
 pub mod Winners

@@ -1,4 +1,5 @@
 ghost use Rattle.std.specs.Prelude.{◌≡◌, ℕ};
+ghost use Rattle.el_base.specs.LetGo.{freed_of_outcome};
 ghost use Rattle.el_base.specs.Losers.{beaten_by};
 ghost use Rattle.el_base.specs.Winners.{winner_over};
 
@@ -86,6 +87,17 @@ impl Outcome {
             | Outcome::Served { losers, .. }
             | Outcome::Delivered { losers } => losers,
             _ => Losers::none(),
+        }
+    }
+
+    /// The harts that were let go in the event, each with its instructions that took effect, which are none where the
+    /// outcome tells of none.
+    pub fn freed(self) -> Freed
+        ensures { result ≡ freed_of_outcome self }
+    {
+        match self {
+            Outcome::Ordered { freed, .. } | Outcome::Served { freed, .. } => freed,
+            _ => Freed::none(),
         }
     }
 }

@@ -7,6 +7,7 @@ use Rattle.std.specs.Prelude.{All, map}
 use Rattle.chronicle.specs.Chronicle.{Chronicle, events}
 use Rattle.chronicle.specs.Serial.{serial}
 use Rattle.el_base.specs.Config.{IsInRange}
+use Rattle.el_base.specs.Recordable.{IsRecordable}
 use Rattle.el_base.specs.declared.config.Config.{Config}
 use Rattle.el_base.specs.declared.entries.Entry.{Entry}
 use Rattle.el_base.specs.declared.events.Event.{Event}
@@ -24,7 +25,6 @@ use Rattle.machine.proofs.Laws.Continued.{state_of_continued}
 use Rattle.machine.proofs.MainLines.{first_lines, more_lines}
 use Rattle.machine.proofs.Laws.Recording.{outcomes_can_be_recorded}
 use Rattle.machine.specs.MainMemory.{main_lines}
-use Rattle.machine.specs.Recording.{CanBeRecorded}
 use Rattle.machine.specs.Stands.{IsGiven, MachineStands}
 use Rattle.machine.specs.Story.{IsOneRun, Story, committed, continued, left_of, memory_of, state_of}
 use Rattle.rv_flat.specs.FlatState.{FlatState, span_of, start}
@@ -178,7 +178,7 @@ one_run story now parts room stands same = subst IsOneRun same (is_one_run story
 
 -- and each outcome can be recorded
 pub recordable : (story now : Story) (parts : Parts) (room : ℕ) → MachineStands story parts room → story ≡ now →
-    All (CanBeRecorded now.config.harts now.config.long) (map (λ entry. entry.outcome) now.entries)
+    All (IsRecordable now.config.harts now.config.long) (map (λ entry. entry.outcome) now.entries)
 recordable story now parts room stands same =
     let given = subst (λ s. IsGiven s room) same stands.given in
     rw (one_run story now parts room stands same).outcomes

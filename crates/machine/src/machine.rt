@@ -25,6 +25,7 @@ ghost use Rattle.std.specs.Prelude.{
 };
 ghost use Rattle.chronicle.specs.Chronicle.{events};
 ghost use Rattle.el_base.specs.Config.{IsInRange, config_fault};
+ghost use Rattle.el_base.specs.Recordable.{IsRecordable};
 ghost use Rattle.el_base.specs.declared.config.ConfigFault.{ConfigFault};
 ghost use Rattle.el_base.specs.declared.config.Mode.TheVariants.{Tlr};
 ghost use Rattle.el_model.specs.Next.{is_over, next, shown_of};
@@ -49,7 +50,6 @@ ghost use Rattle.machine.specs.Promises.{
   StampsStay,
   change,
 };
-ghost use Rattle.machine.specs.Recording.{CanBeRecorded};
 ghost use Rattle.machine.specs.Resting.{bus_events, turn_events};
 ghost use Rattle.machine.specs.Story.{IsOneRun, committed, continued, history_of, left_of, memory_of, state_of};
 ghost use Rattle.reg_mark.specs.Marks.{committed_of};
@@ -266,7 +266,7 @@ impl Machine {
     pub fn history(&self) -> &History
         ensures exact { result.now ≡ history_of self.now }
         ensures one_run { IsOneRun self.now }
-        ensures recordable { All (CanBeRecorded self.now.config.harts self.now.config.long)
+        ensures recordable { All (IsRecordable self.now.config.harts self.now.config.long)
             (map (λ entry. entry.outcome) self.now.entries) }
         ensures within { length self.now.entries ≤ self.now.config.steps }
         ensures harts_exist { All (λ event. event.hart.number < self.now.config.harts) (events self.now.entries) }

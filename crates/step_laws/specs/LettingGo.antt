@@ -2,13 +2,12 @@
 -- end, and all else of both stays
 use Rattle.std.specs.Prelude.{ℕ, ◌≡◌, ◌≢◌, ◌≤◌, List, None, Some}
 use Rattle.el_base.specs.Config.{IsInRange}
-use Rattle.el_base.specs.Freed.{count_in, no_one_freed}
+use Rattle.el_base.specs.Freed.{count_in}
+use Rattle.el_base.specs.LetGo.{freed_of_outcome}
 use Rattle.el_base.specs.declared.config.Config.{Config}
 use Rattle.el_base.specs.declared.events.Event.{Event}
 use Rattle.el_base.specs.declared.events.Kind.TheVariants as kinds
 use Rattle.el_base.specs.declared.freed.Freed.{Freed}
-use Rattle.el_base.specs.declared.outcomes.Outcome.{Outcome}
-use Rattle.el_base.specs.declared.outcomes.Outcome.TheVariants.{Ordered, Served}
 use Rattle.elf_image.specs.Program.{Program}
 use Rattle.el_model.specs.Next.{after, next}
 use Rattle.el_model.specs.State.{Armed, ModelState, armed_of, hart_of}
@@ -16,12 +15,6 @@ use Rattle.rv_flat.specs.FlatState.{view_of}
 use Rattle.rv_flat.specs.Memory.{AreBytes}
 use Rattle.rv_flat.specs.Run.{alone}
 use Rattle.run_laws.specs.PrivateRun.{KeepsAllButViews}
-
--- the harts that an outcome tells were let go, each with the number of its instructions that took effect
-abbrev pub freed_of_outcome : Outcome → Freed
-freed_of_outcome (Ordered losers freed) = freed
-freed_of_outcome (Served losers freed) = freed
-freed_of_outcome _ = no_one_freed
 
 -- the armed section of a hart, of so many instructions, is let go: it is over, the hart's view is the one that its
 -- private run has come to, and the pc of its LR, where the committed view stood, is kept

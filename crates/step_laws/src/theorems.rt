@@ -47,7 +47,6 @@ pub fn bus_events_keep()
 /// that is no step lets go the harts that its outcome tells. Of those the armed section is over, the view is the one
 /// that its private run has come to, and the pc of its LR is kept. Memory, code and output stay, and so do each other
 /// hart's view with its reservation, its armed section and the pc of its last LR.
-#[tactic(auto, using(crate::proofs::Laws::LettingGo::bus_events_let_harts_go))]
 pub fn bus_events_let_harts_go()
     ensures { BusEventsLetHartsGo }
 {}

@@ -29,7 +29,7 @@ losses_below h entries place w =
     record { times = times_of h w (take place entries); instr = lost_below (is_winner w) h entries place }
 
 -- a row says of a hart what the first places of a history do
-pub record StandsAt (h : ℕ) (entries : List Entry) (place : ℕ) (row : HartTimes) : Type 0 where
+pub record RowSays (h : ℕ) (entries : List Entry) (place : ℕ) (row : HartTimes) : Type 0 where
   pub units : row.units ≡ units_of h (take place entries)
   pub unsettled : row.unsettled ≡ unsettled h (take place entries)
   pub lost : row.lost ≡ lost_below is_some h entries place
@@ -144,8 +144,8 @@ losses_more h w place entries entry false n same times instr more =
 
 -- a row after one more place
 pub stands_more : (h : ℕ) (entries : List Entry) (place : ℕ) (entry : Entry) (old new : HartTimes) →
-    slice_get entries place ≡ Some entry → StandsAt h entries place old → Follows h entry old new →
-    StandsAt h entries (place + 1) new
+    slice_get entries place ≡ Some entry → RowSays h entries place old → Follows h entry old new →
+    RowSays h entries (place + 1) new
 stands_more h entries place entry old new here so_far more = record {
   units =
       more.units ∙ ap (λ n. n + units_at h entry) so_far.units
@@ -169,7 +169,7 @@ stands_more h entries place entry old new here so_far more = record {
     next = taken_more entries place entry here
 
 -- the row of no events
-pub stands_at_first : (h : ℕ) (entries : List Entry) → StandsAt h entries 0 (row_of h [])
+pub stands_at_first : (h : ℕ) (entries : List Entry) → RowSays h entries 0 (row_of h [])
 unfolding row_of unsettled
 stands_at_first h entries = record {
   units = refl;
@@ -199,7 +199,7 @@ same_rows a b units unsettled lost to =
     ∙ ap (λ n. record b { lost = n; to = a.to }) lost
     ∙ ap (λ l. record b { to = l }) to
 
-row_stands : (h : ℕ) (entries : List Entry) (row : HartTimes) → StandsAt h entries (length entries) row →
+row_stands : (h : ℕ) (entries : List Entry) (row : HartTimes) → RowSays h entries (length entries) row →
     row ≡ row_of h entries
 unfolding row_of
 row_stands h entries row stands =
@@ -219,12 +219,12 @@ row_stands h entries row stands =
 
 -- the rows after all places
 pub table_stands : (entries : List Entry) (rows : List HartTimes) (place : ℕ) → place ≡ length entries →
-    length rows ≡ 8 → ((h : ℕ) → h < 8 → StandsAt h entries place (row_at rows h)) → rows ≡ table_of entries
+    length rows ≡ 8 → ((h : ℕ) → h < 8 → RowSays h entries place (row_at rows h)) → rows ≡ table_of entries
 unfolding table_of
 table_stands entries rows place whole places stands =
     ext_get_or no_row rows (map (λ h. row_of h entries) (range_with_len 0 8))
     (places ∙ sym (length-map-range_with_len (λ h. row_of h entries) 0 8))
     (λ h below. row_stands h entries (row_at rows h)
-    (subst (λ n. StandsAt h entries n (row_at rows h)) whole (stands h (omega (arith, below, places))))
+    (subst (λ n. RowSays h entries n (row_at rows h)) whole (stands h (omega (arith, below, places))))
     ∙ sym (get_or-map-range_with_len (λ h. row_of h entries) 0 8 h h no_row
     (omega (arith, below, places)) (omega arith)))

@@ -2,10 +2,10 @@
 use Rattle.std.specs.Prelude.{ℕ, Bool, true, false, not, ◌&&◌, ◌||◌, ◌==◌, nat_lt, List, reverse, count_by, take_while}
 use Rattle.chronicle.specs.Tally.{has_lost}
 use Rattle.el_base.specs.Freed.{count_in}
+use Rattle.el_base.specs.LetGo.{freed_of_outcome}
 use Rattle.el_base.specs.declared.entries.Entry.{Entry}
 use Rattle.el_base.specs.declared.outcomes.Outcome.{Outcome}
-use Rattle.el_base.specs.declared.outcomes.Outcome.TheVariants.{Armed, Began, Buffered, Committed, LetGo, Ordered}
-use Rattle.el_base.specs.declared.outcomes.Outcome.TheVariants.{RolledBack, Served}
+use Rattle.el_base.specs.declared.outcomes.Outcome.TheVariants.{Armed, Began, Buffered, Committed, LetGo, RolledBack}
 
 -- one instruction of the event's hart ran in private
 abbrev pub is_private : Outcome → Bool
@@ -23,9 +23,7 @@ ends_private _ = false
 
 -- how many private instructions of this hart took effect since the event let it go
 abbrev pub freed_by : Outcome → ℕ → ℕ
-freed_by (Ordered losers freed) h = count_in freed h
-freed_by (Served losers freed) h = count_in freed h
-freed_by _ h = 0
+freed_by outcome h = count_in (freed_of_outcome outcome) h
 
 -- one instruction of this hart ran in private
 abbrev pub adds : ℕ → Entry → Bool

@@ -1,6 +1,5 @@
 //! What the events of a history come to for one hart, counted one event after another.
 ghost use Rattle.std.specs.Prelude.{◌≡◌, ℕ, ◌+◌, ◌<◌, ◌≤◌, ◌^◌, []};
-ghost use Rattle.el_base.specs.Freed.{count_in};
 ghost use Rattle.el_base.specs.Winners.{winner_over};
 ghost use Rattle.timetable.specs.Costs.{cost};
 ghost use Rattle.timetable.specs.Counting.{Follows, IsWithin, after_loss, after_others, after_own, most_events};
@@ -8,7 +7,7 @@ ghost use Rattle.timetable.specs.Rows.{losses_at};
 ghost use Rattle.timetable.specs.Table.{row_of};
 ghost use Rattle.timetable.specs.Unsettled.{freed_by};
 
-use el_base::{Entry, Freed, HartId, MAX_HARTS, Outcome};
+use el_base::{Entry, HartId, MAX_HARTS, Outcome};
 
 /// The units that a hart is charged for each loss.
 const LOSS_CHARGE: u64 = 10;
@@ -89,7 +88,7 @@ impl HartTimes {
     {
         if let Some(winner) = outcome.losers().winner_of(hart) {
             self.count_loss(winner);
-        } else if freed_by(outcome).count_of(hart) > 0 {
+        } else if outcome.freed().count_of(hart) > 0 {
             self.unsettled = 0;
         }
     }
@@ -130,15 +129,5 @@ fn cost(outcome: Outcome) -> u64
         Outcome::Ordered { .. } => 4,
         Outcome::RolledBack { .. } => 10,
         Outcome::Served { .. } => 20,
-    }
-}
-
-/// The harts that an event of this outcome let go.
-pub(crate) fn freed_by(outcome: Outcome) -> Freed
-    ensures { (h : ℕ) → count_in result h ≡ freed_by outcome h }
-{
-    match outcome {
-        Outcome::Ordered { freed, .. } | Outcome::Served { freed, .. } => freed,
-        _ => Freed::none(),
     }
 }

@@ -9,7 +9,7 @@ ghost use Rattle.timetable.specs.Rows.{instr_in, lost_in, row_at, times_in, unit
 ghost use Rattle.timetable.specs.Table.{instr_of, lost_of, table_of, times_of, units_of};
 ghost use Rattle.timetable.specs.Unsettled.{freed_by};
 
-use crate::hart_times::{HartTimes, freed_by};
+use crate::hart_times::HartTimes;
 use el_base::{Chronicled, Entry, Freed, HartId, Losers, MAX_HARTS};
 use std::marker::Model;
 
@@ -113,7 +113,7 @@ fn is_of_its_hart_alone(entry: Entry) -> bool
     ensures nobody_lost { IsTrue result → (h : ℕ) → winner_over entry.outcome h ≡ None }
     ensures nobody_freed { IsTrue result → (h : ℕ) → freed_by entry.outcome h ≡ 0 }
 {
-    entry.outcome.losers() == Losers::none() && freed_by(entry.outcome) == Freed::none()
+    entry.outcome.losers() == Losers::none() && entry.outcome.freed() == Freed::none()
 }
 
 /// Counts an event for every hart.

@@ -6,13 +6,13 @@ use Rattle.chronicle.specs.Chronicle.{Chronicle, events}
 use Rattle.chronicle.specs.Serial.{serial}
 use Rattle.el_base.proofs.Laws.Ranges.{at_most, ranges}
 use Rattle.el_base.specs.Config.{IsInRange}
+use Rattle.el_base.specs.Recordable.{IsRecordable}
 use Rattle.el_base.specs.declared.entries.Entry.{Entry}
 use Rattle.el_base.specs.declared.events.Event.{Event}
 use Rattle.el_model.proofs.Laws.Folds.{events-entries_from, outcomes-entries_from}
 use Rattle.el_model.specs.Next.{entries_from}
 use Rattle.el_model.specs.State.{begin}
 use Rattle.elf_image.specs.Program.{Program}
-use Rattle.drive.specs.Recording.{CanBeRecorded}
 use Rattle.drive.specs.Story.{IsOneRun, Story, committed, history_of, memory_of}
 use Rattle.run_check.proofs.Laws.ReachedStates.{reached_is_state}
 use Rattle.run_check.specs.Certified.{IsHistoryOf, IsStateOf}
@@ -44,7 +44,7 @@ as_made story run =
 pub history_fits : (story : Story) → IsOneRun story → length story.entries ≤ story.config.steps →
     IsInRange story.config → story.program.harts ≡ story.config.harts →
     All (λ event. event.hart.number < story.config.harts) (events story.entries) →
-    All (CanBeRecorded story.config.harts story.config.long) (outcomes story.entries) →
+    All (IsRecordable story.config.harts story.config.long) (outcomes story.entries) →
     IsHistoryOf story.program story.entries
 history_fits story run within in_range same exist can =
     let made : List Event = events story.entries in
@@ -90,7 +90,7 @@ pub copy_fits : (image : Program) (story : Story) (history : Chronicle) → imag
     history ≡ history_of story → IsOneRun story → length story.entries ≤ story.config.steps → IsInRange story.config →
     story.program.harts ≡ story.config.harts →
     All (λ event. event.hart.number < story.config.harts) (events story.entries) →
-    All (CanBeRecorded story.config.harts story.config.long) (outcomes story.entries) →
+    All (IsRecordable story.config.harts story.config.long) (outcomes story.entries) →
     IsHistoryOf image history.entries
 copy_fits image story history same is run within in_range one_each exist can =
     subst (λ (kept : Chronicle). IsHistoryOf image kept.entries) (sym is)

@@ -13,8 +13,10 @@ use Rattle.chronicle.specs.Chronicle.{events}
 use Rattle.command_line.specs.Settings.{config_of}
 use Rattle.command_line.specs.Words.{ReplayJob, RunJob}
 use Rattle.el_base.proofs.Laws.Options.{or_none}
+use Rattle.el_base.proofs.Laws.Recordable.{all_still_recordable}
 use Rattle.el_base.proofs.Laws.Ranges.{ranges, at_least, at_most}
 use Rattle.el_base.specs.Config.{IsInRange}
+use Rattle.el_base.specs.Recordable.{IsRecordable}
 use Rattle.el_base.specs.declared.events.Event.{Event}
 use Rattle.el_base.specs.declared.outcomes.Outcome.{Outcome}
 use Rattle.el_base.specs.declared.config.Config.{Config}
@@ -28,7 +30,6 @@ use Rattle.elf_image.specs.Program.{Program}
 use Rattle.elf_image.proofs.Laws.Loading.{loaded_harts}
 use Rattle.drive.proofs.Laws.Continued.{continued_twice, left_of_continued, nothing_more}
 use Rattle.drive.proofs.Laws.Recording.{outcomes_can_be_recorded}
-use Rattle.drive.specs.Recording.{CanBeRecorded}
 use Rattle.drive.specs.Story.{Story, committed, continued, left_of, state_of}
 use Rattle.trace_file.specs.Faults.{config_at, trace_fault}
 use Rattle.trace_file.specs.Outcomes.{most_committed}
@@ -46,7 +47,6 @@ use Rattle.tool.specs.Jobs.{UnlessRefused, besides_replay}
 use Rattle.tool.specs.Jobs.{besides_run, first_story}
 use Rattle.tool.specs.Laws.{SaysTheSame}
 use Rattle.tool.proofs.Files.{spelled_harts}
-use Rattle.step_back.proofs.Laws.Recording.{are_recordable}
 use Rattle.tool.proofs.TraceLengths.{length-spelling}
 use Rattle.tool.specs.Refusals.{config_refusal, image_refusal, replay_refusal, run_refusal, size_refusal, trace_limit}
 use Rattle.tool.specs.Refusals.{trace_refusal}
@@ -133,8 +133,8 @@ recorded program config made same in_range =
     let long : config.long ≤ most_committed = at_most 2 65536 config.long inside.long in
     let found = sym (outcomes-entries_from first made) in (
       length-map (entries_from first made) (λ entry. entry.outcome) ∙ length-entries_from first made,
-      are_recordable config.harts config.long (outcomes (entries_from first made)) long
-          (subst (All (CanBeRecorded config.harts config.long)) found
+      all_still_recordable config.harts config.long most_committed (outcomes (entries_from first made)) long
+          (subst (All (IsRecordable config.harts config.long)) found
           (outcomes_can_be_recorded program config made same in_range)),
     )
 

@@ -1,5 +1,5 @@
--- Outcomes in a trace: the spelling of each, and those that have one.
-use Rattle.std.specs.Prelude.{◌≡◌, ℕ, ◌+◌, ◌*◌, ◌<◌, ◌≤◌, List, [], ◌∷◌, ◌++◌, Some}
+-- Outcomes in a trace: the spelling of each.
+use Rattle.std.specs.Prelude.{ℕ, ◌+◌, ◌*◌, List, [], ◌∷◌, ◌++◌}
 use Rattle.byteorder.specs.Endian.{little_bytes}
 use Rattle.el_base.specs.Freed.{count_in}
 use Rattle.el_base.specs.Losers.{beaten_by, winner_code}
@@ -55,28 +55,6 @@ outcome_spelling (LetGo count) = 14 ∷ little_bytes 1 count
 
 -- ---- ranges
 
--- the most instructions that a section commits, and that one letting go makes take effect
+-- the most instructions that a section commits
 abbrev pub most_committed : ℕ
 most_committed = 65536
-
-abbrev pub most_let_go : ℕ
-most_let_go = 15
-
--- each hart that lost, and the hart that it lost to, is one of so many
-abbrev pub AreLosersBelow : ℕ → Losers → Type 0
-AreLosersBelow harts losers = (h winner : ℕ) → beaten_by losers h ≡ Some winner → (h < harts) × (winner < harts)
-
--- no other hart than one of so many was freed
-abbrev pub AreFreedBelow : ℕ → Freed → Type 0
-AreFreedBelow harts freed = (h : ℕ) → harts ≤ h → count_in freed h ≡ 0
-
--- an outcome that a trace of so many harts can record: each hart that it names is one of them, and its count is one
--- that a section commits or that a letting go has
-abbrev pub IsRecordable : ℕ → Outcome → Type 0
-IsRecordable harts (Committed count) = (1 ≤ count) × (count ≤ most_committed)
-IsRecordable harts (LetGo count) = (1 ≤ count) × (count ≤ most_let_go)
-IsRecordable harts (Ordered losers freed) = AreLosersBelow harts losers × AreFreedBelow harts freed
-IsRecordable harts (Served losers freed) = AreLosersBelow harts losers × AreFreedBelow harts freed
-IsRecordable harts (Delivered losers) = AreLosersBelow harts losers
-IsRecordable harts (Blocked why by) = by.number < harts
-IsRecordable harts _ = Unit {0}

@@ -16,6 +16,7 @@ use Rattle.el_base.proofs.Laws.HartIds.{hart_id-number}
 use Rattle.el_base.proofs.Laws.MadeLosers.{count_in-beyond, count_in-freed_of, named_by_map, none_in_no_one}
 use Rattle.el_base.proofs.Laws.Ranges.{harts_in_range}
 use Rattle.el_base.specs.Config.{IsInRange}
+use Rattle.el_base.specs.Recordable.{AreFreedAmong, IsRecordable}
 use Rattle.residency.specs.Cache.{has_bit}
 use Rattle.el_base.specs.Freed.{count_in, no_one_freed}
 use Rattle.el_base.specs.Winners.{winner_over}
@@ -53,7 +54,7 @@ use Rattle.el_model.specs.Serve.{Blocks, Free, Obstacle, blocks_if, obstacle_to,
 use Rattle.el_model.specs.State.{Armed, Hart, ModelState, Section, Turn, armed_of, begin, count_up, hart_of, head_of}
 use Rattle.el_model.specs.State.{new_hart, numbers_of, ordered_of, ordered_on, section_of}
 use Rattle.elf_image.specs.Program.{Program}
-use Rattle.machine.specs.Recording.{AreFreedAmong, CanBeRecorded, OutcomesCanBeRecorded}
+use Rattle.machine.specs.Recording.{OutcomesCanBeRecorded}
 use Rattle.engine.proofs.Laws.ArmedCounts.{armed_sections_are_short}
 use Rattle.progress_laws.proofs.Laws.Delivering.{own_line}
 use Rattle.progress_laws.proofs.Laws.Facing.{least_passes}
@@ -245,7 +246,7 @@ module _ (state : ModelState) (few : length state.harts ≤ 8) (bounded : Bounde
     recorded : (event : Event) (outcome : Outcome) → ComesWhere state event outcome →
         ((loser winner : ℕ) → winner_over outcome loser ≡ Some winner →
         (loser < length state.harts) × (winner < length state.harts)) →
-        CanBeRecorded (length state.harts) state.config.long outcome
+        IsRecordable (length state.harts) state.config.long outcome
     recorded event (Committed count) (section, is, goes) named =
         let counts = is_short event.hart.number section goes.inside in
         let short = commits_short state event.hart.number section goes.rule_is in
@@ -274,7 +275,7 @@ module _ (state : ModelState) (few : length state.harts ≤ 8) (bounded : Bounde
 -- so in each state that can be reached
 module _ (program : Program) (config : Config) (same : program.harts ≡ config.harts) (range : IsInRange config) where
   abbrev Recordable : Outcome → Type 0
-  Recordable outcome = CanBeRecorded config.harts config.long outcome
+  Recordable outcome = IsRecordable config.harts config.long outcome
 
   first_config : (begin program config).config ≡ config
   unfolding begin
@@ -329,8 +330,8 @@ module _ (program : Program) (config : Config) (same : program.harts ≡ config.
       let state = after program config made in
       let few : length state.harts ≤ 8 = rw (as_configured made) (harts_in_range config range) in
       let outcome = (next state event).outcome in
-      subst (λ c. CanBeRecorded c.harts c.long outcome) (config_stays made)
-      (subst (λ count. CanBeRecorded count state.config.long outcome) (bounds made).count
+      subst (λ c. IsRecordable c.harts c.long outcome) (config_stays made)
+      (subst (λ count. IsRecordable count state.config.long outcome) (bounds made).count
       (recorded state few (bounds made) (one_ordered_request_each program config made) (sections_short made)
       (armed_short made) event outcome ((by_their_rules state event outcome).0 refl) (names_exist made event)))
 

@@ -5,6 +5,7 @@ use Rattle.std.proofs.lemmas.List.Elements.{All-append, All-cons, All-nil, All-r
 use Rattle.chronicle.specs.Chronicle.{events}
 use Rattle.chronicle.specs.Serial.{serial, taking_effect}
 use Rattle.el_base.specs.Config.{IsInRange}
+use Rattle.el_base.specs.Recordable.{IsRecordable}
 use Rattle.el_base.specs.declared.config.Config.{Config}
 use Rattle.el_base.specs.declared.entries.Entry.{Entry}
 use Rattle.el_base.specs.declared.events.Event.{Event}
@@ -15,11 +16,10 @@ use Rattle.el_model.specs.Next.{entries_from}
 use Rattle.el_model.specs.State.{begin}
 use Rattle.elf_image.specs.Program.{Program}
 use Rattle.machine.proofs.Laws.Recording.{outcomes_can_be_recorded}
-use Rattle.machine.specs.Recording.{CanBeRecorded}
 use Rattle.step_back.proofs.Freed.{order_exists}
 use Rattle.trace_file.specs.Spelling.{outcomes}
 
-effect_exists : (harts long h : ℕ) (outcome : Outcome) → h < harts → CanBeRecorded harts long outcome →
+effect_exists : (harts long h : ℕ) (outcome : Outcome) → h < harts → IsRecordable harts long outcome →
     All (λ hart. hart < harts) (taking_effect h outcome)
 effect_exists harts long h Ran exists can = All-cons (λ hart. hart < harts) h [] exists (All-nil (λ hart. hart < harts))
 effect_exists harts long h (Committed count) exists can = All-replicate (λ hart. hart < harts) count h exists
@@ -30,7 +30,7 @@ effect_exists harts long h _ exists can = All-nil (λ hart. hart < harts)
 
 -- where the harts of the events exist, and those that the outcomes name, so do those whose instructions take effect
 pub serial_exists : (harts long : ℕ) (entries : List Entry) →
-    All (λ event. event.hart.number < harts) (events entries) → All (CanBeRecorded harts long) (outcomes entries) →
+    All (λ event. event.hart.number < harts) (events entries) → All (IsRecordable harts long) (outcomes entries) →
     All (λ hart. hart < harts) (serial entries)
 serial_exists harts long [] exist can = All-nil (λ hart. hart < harts)
 serial_exists harts long (entry ∷ entries) exist can =
@@ -47,7 +47,7 @@ pub run_exists : (program : Program) (config : Config) (made : List Event) → p
 run_exists program config made same range exist =
     let entries : List Entry = entries_from (begin program config) made in
     let Made : List Event → Type 0 = All (λ event. event.hart.number < config.harts) in
-    let Recorded : List Outcome → Type 0 = All (CanBeRecorded config.harts config.long) in
+    let Recorded : List Outcome → Type 0 = All (IsRecordable config.harts config.long) in
     subst (λ harts. All (λ hart. hart < harts) (serial entries)) (sym same)
     (serial_exists config.harts config.long entries
     (subst Made (sym (events-entries_from (begin program config) made)) exist)

@@ -13,6 +13,7 @@ use Rattle.el_model.proofs.Laws.Deeds.{step_deed}
 use Rattle.el_model.proofs.Laws.Harts.{hart_of-with_hart_other}
 use Rattle.rv_flat.specs.Run.{run}
 use Rattle.section_laws.proofs.Laws.EachKept.{BusKept, turn_keeps}
+use Rattle.section_laws.proofs.Laws.Moves.{moves_by_ends}
 use Rattle.step_laws.specs.Frames.{BusEventsKeep, LeavesOthers, StepsKeepOthers}
 
 -- a hart has the predictor that it had
@@ -26,16 +27,9 @@ claim_predictor false request hart = refl
 
 same_predictor : (old : ModelState) → BusKept (SamePredictor old)
 same_predictor old = record {
-  moves = record {
-    posted_to = λ h hart mail now. now;
-    told = λ h hart told now. now;
-    preceded = λ h hart upstream now. now;
-    saw = λ h hart seen later now. now;
-    lost = λ h hart now. now;
-    freed = λ h pc hart now. now;
-    gave_up = λ h hart now. now;
-    tried = λ h hart more now. now;
-  };
+  moves = moves_by_ends (λ h hart other now. now)
+      (λ h hart now. now)
+      (λ h pc hart now. now);
   unraised = λ h hart now. now;
   served = λ h state request hart now. claim_predictor (is_some hart.section) request _ ∙ now;
   bystander = λ h state request hart now. now;

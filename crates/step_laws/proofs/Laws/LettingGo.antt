@@ -10,6 +10,7 @@ use Rattle.chronicle.specs.Serial.{taking_effect}
 use Rattle.el_base.proofs.Laws.FreedOrder.{order_below-more}
 use Rattle.el_base.proofs.Laws.MadeLosers.{count_in-beyond, count_in-freed_of, none_in_no_one}
 use Rattle.el_base.specs.Freed.{count_in, order_below, order_of}
+use Rattle.el_base.specs.LetGo.{freed_of_outcome}
 use Rattle.el_base.specs.declared.config.Mode.{Mode}
 use Rattle.el_base.specs.declared.config.Mode.TheVariants.{Plain, Sle, Tlr}
 use Rattle.el_base.specs.declared.freed.Freed.{Freed}
@@ -44,7 +45,7 @@ use Rattle.section_laws.proofs.Laws.Numbered.{requests_are_numbered}
 use Rattle.stamp.specs.Stamps.{Stamp}
 use Rattle.section_laws.proofs.Laws.Waiting.{Rested, always_settled, live_unarmed, rested_in}
 use Rattle.step_laws.specs.LettingGo as letting_go
-use Rattle.step_laws.specs.LettingGo.{BusEventsLetHartsGo, freed_of_outcome}
+use Rattle.step_laws.specs.LettingGo.{BusEventsLetHartsGo}
 
 -- how often a hart stands in a list
 abbrev one_if : Bool → ℕ

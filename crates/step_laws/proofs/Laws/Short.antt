@@ -19,6 +19,7 @@ use Rattle.el_model.specs.RollBack.{blamed}
 use Rattle.el_model.specs.Serve.{with_claim}
 use Rattle.el_model.specs.State.{Armed, Hart, ModelState, Section, armed_of, begin, hart_of}
 use Rattle.el_model.specs.Upcoming.{Swap}
+use Rattle.section_laws.proofs.Laws.Moves.{moves_by_ends}
 use Rattle.section_laws.proofs.Laws.NewHarts.{each_new}
 use Rattle.el_model.proofs.Laws.FromStart.{next_config}
 use Rattle.pair_table.specs.Predictor.{Predictor, Watch, counting, judged, saw_with, verdict_on}
@@ -55,16 +56,9 @@ claim_holds long h false request hart now = now
 
 bus_kept : (long : ℕ) → BusKept (Holds long)
 bus_kept long = record {
-  moves = record {
-    posted_to = λ h hart mail now. now;
-    told = λ h hart told now. now;
-    preceded = λ h hart upstream now. now;
-    saw = λ h hart seen later now. now;
-    lost = λ h hart now. record { of_section = tt; of_watch = now.of_watch };
-    freed = λ h pc hart now. now;
-    gave_up = λ h hart now. now;
-    tried = λ h hart more now. now;
-  };
+  moves = moves_by_ends (λ h hart other now. now)
+      (λ h hart now. record { of_section = tt; of_watch = now.of_watch })
+      (λ h pc hart now. now);
   unraised = λ h hart now. now;
   served = λ h state request hart now. claim_holds long h (is_some hart.section) request _ now;
   bystander = λ h state request hart now. now;

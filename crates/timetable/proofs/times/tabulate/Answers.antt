@@ -1,12 +1,12 @@
 use Rattle.std.proofs.Common.{subst, sym, ◌∙◌, arith, refl}
 use Rattle.timetable.specs.Rows.{row_at}
-use Rattle.timetable.proofs.Standing.{StandsAt, first_rows, stands_at_first, stands_more, table_stands}
+use Rattle.timetable.proofs.Standing.{RowSays, first_rows, stands_at_first, stands_more, table_stands}
 use Rattle.timetable.proofs.times.tabulate.Goals as goal
 
 pub loop-place-init : goal.loop-place-init
 loop-place-init g c = record {
   rows = refl;
-  so_far = λ h small. subst (λ row. StandsAt h (g.C.Chronicled.entries c.args.history.now) 0 row)
+  so_far = λ h small. subst (λ row. RowSays h (g.C.Chronicled.entries c.args.history.now) 0 row)
       (sym (first_rows c.nothing-rows.result h small ∙ c.nothing-rows.ensures h))
       (stands_at_first h (g.C.Chronicled.entries c.args.history.now));
 }

@@ -9,13 +9,14 @@ use Rattle.el_model.specs.Next.{is_over}
 use Rattle.el_model.specs.State.{ModelState, for_line, hart_of, head_of, is_live, ordered_of, ordered_on}
 use Rattle.mail.specs.Mailbox.{Marker, Message, Probe, has_message}
 use Rattle.progress_laws.proofs.AllWait.{OnlyWaits, gets_on_or_waits}
-use Rattle.progress_laws.proofs.Laws.GettingOn.{GetsOn, Orderly, line_gets_on, live_runs, ordered_runs}
+use Rattle.progress_laws.proofs.Laws.GettingOn.{GetsOn, Orderly, line_gets_on, ordered_runs}
 use Rattle.progress_laws.proofs.LeastStamp.{Least, NoStamp, least_below}
 use Rattle.progress_laws.proofs.Laws.Over.{not_stuck, over_stopped}
 use Rattle.progress_laws.specs.Ready.{ready_event}
 use Rattle.removal_laws.specs.Facts.{Everywhere, Facts, IsWaiting}
 use Rattle.removal_laws.specs.Laws.{IsDelivered, WaitsWithLeast, attempt_of}
 use Rattle.section_laws.proofs.Laws.Bits.{meets}
+use Rattle.section_laws.proofs.Laws.Waiting.{live_runs}
 use Rattle.removal_laws.proofs.Laws.Climbing.{not_retained}
 use Rattle.rv_alu.specs.declared.view.HartStatus.TheVariants.{Running}
 use Rattle.rv_flat.specs.FlatState.{status_of}

@@ -25,7 +25,7 @@ use Rattle.el_model.specs.State.{Hart, ModelState, Section, cache_of, hart_of, h
 use Rattle.el_model.specs.Upcoming.{Swap, Touch}
 use Rattle.el_model.proofs.Laws.Deeds.{step_deed}
 use Rattle.progress_laws.proofs.Faced.{NoneRetains, dead_unmet}
-use Rattle.removal_laws.proofs.Laws.Asked.{asked_first}
+use Rattle.section_laws.proofs.Laws.Asked.{asked_first}
 use Rattle.section_laws.proofs.Laws.Fewer.{fewer_unmet}
 use Rattle.section_laws.proofs.Laws.Bits.{Fewer, NoMore, fewer_same, no_more_marked, no_more_same, no_more_touched}
 use Rattle.section_laws.proofs.Laws.Bits.{no_more_twice}

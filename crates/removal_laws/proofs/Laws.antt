@@ -1,5 +1,4 @@
 -- the laws that are offered to the crates above; every other file here is private
-pub mod Asked
 pub mod Attempts
 pub mod Clocks
 pub mod Facing

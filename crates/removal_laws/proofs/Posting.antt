@@ -1,6 +1,7 @@
 -- a hart that is posted messages, sees a stamp, loses its section or has its armed one let go, and nothing else
 use Rattle.std.proofs.Common.{◌≡◌, ◌∙◌, ◌≤◌, ◌==◌, ℕ, Bool, true, false, List, [], ◌∷◌, map, Option, refl, sym, inl}
 use Rattle.std.proofs.Common.{inr, ◌⊎◌, arith, subst, if◌then◌else◌}
+use Rattle.std.proofs.Math.Nat.{le_refl}
 use Rattle.defer_list.specs.HartSet.{has}
 use Rattle.el_model.specs.Armed.{let_go_hart}
 use Rattle.el_model.specs.Attempts.{see}
@@ -11,7 +12,7 @@ use Rattle.mail.specs.Mailbox.{Marker, Message, Probe, has_message, posted, same
 use Rattle.mail.proofs.Laws.LookUps.{has_posted_other, has_posted_own}
 use Rattle.mail.proofs.Laws.OnceEach.{same_is_one}
 use Rattle.removal_laws.specs.Facts.{IsLinked, Knows, MayPrecede}
-use Rattle.section_laws.proofs.Laws.Bits.{Fewer, fewer_ended, fewer_same, fewer_twice, no_less, no_more_cleared}
+use Rattle.section_laws.proofs.Laws.Bits.{Fewer, fewer_ended, fewer_same, fewer_twice, no_more_cleared}
 use Rattle.section_laws.proofs.Laws.Moves.{seen_grows}
 use Rattle.stamp.specs.Stamps.{Stamp}
 use Rattle.el_base.proofs.Laws.Tests.{number_of_test, own_test}
@@ -86,7 +87,7 @@ posted_same state g old new raised mail told upstream attempt seen fewer = recor
 
 pub unchanged : (state : ModelState) (g : ℕ) (hart : Hart) → Posted state g hart hart
 unchanged state g hart =
-    posted_same state g hart hart refl refl refl refl refl (no_less hart.seen)
+    posted_same state g hart hart refl refl refl refl refl (le_refl hart.seen)
     (λ line. fewer_same line hart hart refl refl)
 
 pub seeing : (state : ModelState) (g : ℕ) (stamp : Option Stamp) (hart : Hart) → Posted state g hart (see stamp hart)
@@ -96,12 +97,12 @@ seeing state g stamp hart =
 
 pub losing : (state : ModelState) (g : ℕ) (hart : Hart) → Posted state g hart (out_of_section hart)
 losing state g hart =
-    posted_same state g hart (out_of_section hart) refl refl refl refl refl (no_less hart.seen)
+    posted_same state g hart (out_of_section hart) refl refl refl refl refl (le_refl hart.seen)
     (λ line. fewer_ended line hart (out_of_section hart) refl)
 
 pub let_go_posts : (state : ModelState) (g pc : ℕ) (hart : Hart) → Posted state g hart (let_go_hart pc hart)
 let_go_posts state g pc hart =
-    posted_same state g hart (let_go_hart pc hart) refl refl refl refl refl (no_less hart.seen)
+    posted_same state g hart (let_go_hart pc hart) refl refl refl refl refl (le_refl hart.seen)
     (λ line. record { live = λ live. live; bits = λ live. no_more_cleared hart.cache line })
 
 -- a message is posted: no link ends, and nothing that is known
@@ -129,7 +130,7 @@ marked state g sender hart may = record {
   told = refl;
   upstream = refl;
   attempt = refl;
-  seen = no_less hart.seen;
+  seen = le_refl hart.seen;
   links = links_still hart (Marker sender);
   fresh = λ before is. from before is;
   knows = knows_still hart (Marker sender);

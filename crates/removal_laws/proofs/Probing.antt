@@ -1,6 +1,7 @@
 -- what a delivered message changes of each hart
 use Rattle.std.proofs.Common.{◌≡◌, ◌≤◌, ◌==◌, ℕ, Bool, true, false, List, [], ◌∷◌, length, map, Some, refl, ap, inl}
 use Rattle.std.proofs.Common.{inr, ◌⊎◌, subst, if◌then◌else◌}
+use Rattle.std.proofs.Math.Nat.{le_refl}
 use Rattle.bus_order.specs.Order.{Request}
 use Rattle.defer_list.specs.HartSet.{has}
 use Rattle.el_model.specs.Conflicts.{conflicts_with}
@@ -9,7 +10,7 @@ use Rattle.mail.specs.Mailbox.{Marker, Message, Probe, has_message, posted, same
 use Rattle.mail.proofs.Laws.LookUps.{has_posted_own}
 use Rattle.mail.proofs.Laws.OnceEach.{same_is_one}
 use Rattle.removal_laws.specs.Facts.{Everywhere, IsLinked, Knows, MayBeKnown}
-use Rattle.section_laws.proofs.Laws.Bits.{Fewer, fewer_same, fewer_twice, no_less}
+use Rattle.section_laws.proofs.Laws.Bits.{Fewer, fewer_same, fewer_twice}
 use Rattle.removal_laws.proofs.Grounds.{Standing}
 use Rattle.removal_laws.proofs.Kept.{Owed, OwedOf, messages_moved, retaining_trimmed}
 use Rattle.removal_laws.proofs.Posting.{knows_still, links_still, there_or_new}
@@ -36,7 +37,7 @@ pub took_nothing : (Up Told : ℕ → ℕ → Type 0) (state : ModelState) (g : 
 took_nothing Up Told state g hart = record {
   raised = refl;
   attempt = refl;
-  seen = no_less hart.seen;
+  seen = le_refl hart.seen;
   links = λ before is. is;
   linked = λ before is. is;
   knows = λ origin is. is;

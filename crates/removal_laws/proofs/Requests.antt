@@ -23,7 +23,7 @@ use Rattle.el_model.proofs.Laws.Harts.{hart_of-past}
 use Rattle.el_model.proofs.Laws.Tests.{by_hart}
 use Rattle.el_model.proofs.Laws.EachHart.{Each}
 use Rattle.el_model.proofs.Laws.Orders.{placed_own}
-use Rattle.section_laws.proofs.Laws.Moves.{Moves, moved, step_keeps, taken_keeps}
+use Rattle.section_laws.proofs.Laws.Moves.{Moves, moved, moves_by_ends, step_keeps, taken_keeps}
 use Rattle.section_laws.proofs.Laws.Numbered.{next_count, order_keeps}
 use Rattle.section_laws.proofs.Laws.OrderedHarts.{AreBelow, below_kept}
 use Rattle.section_laws.proofs.Laws.Waiting.{Sound, free_of_order, no_request, order_other}
@@ -41,16 +41,9 @@ abbrev pub AllStamped : ModelState → Type 0
 AllStamped state = Each (Stamping (ordered_of state)) state
 
 moves : (ordered : ℕ → Option Request) → Moves (Stamping ordered)
-moves ordered = record {
-  posted_to = λ h hart mail now. now;
-  told = λ h hart told now. now;
-  preceded = λ h hart upstream now. now;
-  saw = λ h hart seen later now. now;
-  lost = λ h hart now. now;
-  freed = λ h pc hart now. now;
-  gave_up = λ h hart now. now;
-  tried = λ h hart more now. now;
-}
+moves ordered = moves_by_ends (λ h hart other now. now)
+    (λ h hart now. now)
+    (λ h pc hart now. now)
 
 pub raised_own : (state : ModelState) (h : ℕ) (request : Request) → Sound state → raised_of state h ≡ Some request →
     raised_of state request.hart ≡ Some request

@@ -3,8 +3,9 @@ use Rattle.std.proofs.Common.{◌≡◌, ◌≢◌, ◌∙◌, ◌≤◌, ◌+�
 use Rattle.std.proofs.Common.{length, Option, None, Some}
 use Rattle.std.proofs.Common.{is_some, refl, ap, sym, inl, inr, ◌⊎◌, subst, if◌then◌else◌}
 use Rattle.std.proofs.Math.ListN.{length-set}
-use Rattle.std.proofs.lemmas.Bool.{cases_eq}
+use Rattle.std.proofs.lemmas.Bool.{cases_eq, or_cases}
 use Rattle.std.proofs.lemmas.Option.{same_Some}
+use Rattle.std.proofs.Math.Nat.{le_refl}
 use Rattle.bus_order.specs.Order.{Request, first_of}
 use Rattle.residency.specs.Cache.{bit_in, has_bit, has_marks, marked, read_bit, touched, way_of, write_bit}
 use Rattle.residency.specs.Residency.{Way}
@@ -33,10 +34,9 @@ use Rattle.removal_laws.specs.Facts.{Everywhere}
 use Rattle.section_laws.proofs.Laws.Bits.{Meets, NoBitMore, in_the_way, meets, meets_no_more, no_more_marked}
 use Rattle.section_laws.proofs.Laws.Bits.{no_more_touched, no_more_twice, write_of_read_marked}
 use Rattle.section_laws.proofs.Laws.ArmedBits.{completing}
-use Rattle.section_laws.proofs.Laws.Bits.{either, no_less}
 use Rattle.section_laws.specs.EachHart.{HasNoOtherBit}
 use Rattle.removal_laws.proofs.Grounds.{Grounds, Standing}
-use Rattle.removal_laws.proofs.Laws.Asked.{asked_not}
+use Rattle.section_laws.proofs.Laws.Asked.{asked_not}
 use Rattle.removal_laws.proofs.Kept.{Moved, may_kept, messages_moved}
 use Rattle.el_model.proofs.Laws.EachHart.{Each, each_but}
 use Rattle.el_model.proofs.Laws.Orders.{head_line}
@@ -106,7 +106,7 @@ record Stepped (state : ModelState) (g : ℕ) (new : Hart) : Type 0 where
       has_bit new.cache request.line ≡ true → (request.need ≡ Write) × (head_of state request.line ≡ Some request)
 
 retained_same : (hart : Hart) → Retained hart hart
-retained_same hart = record { attempt = refl; seen = no_less hart.seen }
+retained_same hart = record { attempt = refl; seen = le_refl hart.seen }
 
 unchanged : (state : ModelState) (g : ℕ) → Standing state → Stepped state g (hart_of state g)
 unchanged state g standing = record {
@@ -225,7 +225,7 @@ buffered_retains state h line section next cache live bits is = (
       subst (λ h0. conflicts_with h0 h (hart_of state h) ≡ true) (sym found)
       (in_the_way head h (hart_of state h)
       (record { other = it.other; live = ap is_some live; bit = bits head own it.other it.bit }))),
-  record { attempt = refl; seen = no_less (hart_of state h).seen },
+  record { attempt = refl; seen = le_refl (hart_of state h).seen },
 )
 
 touch_bits : (state : ModelState) (h : ℕ) (section next : Section) (touch : Option Touch) →
@@ -288,7 +288,7 @@ reads_unmet : {X : Type 0} (state : ModelState) (h word : ℕ) (hart : Hart) (he
     meets_bit hart head.line need ≡ true → X
 reads_unmet state h word hart head reads unwanted is apart Read need bit = clash (reads.unwritten head.line) bit
 reads_unmet {X} state h word hart head reads unwanted is apart Write need bit =
-    by (either (read_bit hart.cache head.line) (write_bit hart.cache head.line) bit)
+    by (or_cases (read_bit hart.cache head.line) (write_bit hart.cache head.line) bit)
     (cases_eq head.line (line_number word))
   where
     by : (read_bit hart.cache head.line ≡ true) ⊎ (write_bit hart.cache head.line ≡ true) →
@@ -327,7 +327,7 @@ deed_stepped state h (Misses line need) (inr misses) grounds standing =
       retained =
           λ l is. (
             missed_aside (head_of state l) h (hart_of state h) _ is,
-            record { attempt = refl; seen = no_less (hart_of state h).seen },
+            record { attempt = refl; seen = le_refl (hart_of state h).seen },
           );
       raised = λ request is live bit.
           let e = same_Some _ _ is in

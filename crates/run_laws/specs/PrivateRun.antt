@@ -12,6 +12,7 @@ use Rattle.el_model.specs.Upcoming.{stores_to_word}
 use Rattle.rv_alu.specs.Loaded.{loaded}
 use Rattle.rv_alu.specs.declared.view.HartStatus.TheVariants.{Running}
 use Rattle.rv_flat.specs.FlatState.{FlatState, status_of, view_of}
+use Rattle.rv_flat.specs.Laws.{KeepsShape}
 use Rattle.rv_flat.specs.Memory.{byte_in}
 use Rattle.rv_flat.specs.Run.{alone}
 
@@ -79,11 +80,9 @@ pub record KeepsMemory (old new : FlatState) : Type 0 where
 
 -- memory, code, output and how many harts there are, as they were
 pub record KeepsAllButViews (old new : FlatState) : Type 0 where
-  pub base : new.base ≡ old.base
+  pub shape : KeepsShape old new
   pub bytes : new.bytes ≡ old.bytes
-  pub code : new.code ≡ old.code
   pub output : new.output ≡ old.output
-  pub harts : length new.harts ≡ length old.harts
 
 -- and the view of each hart but one, with its reservation
 pub record KeepsAllButAView (h : ℕ) (old new : FlatState) : Type 0 where

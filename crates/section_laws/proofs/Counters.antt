@@ -23,6 +23,7 @@ use Rattle.pair_table.proofs.Laws.Counters.{fresh_counters_small}
 use Rattle.section_laws.specs.EachHart.{AreCounters}
 use Rattle.section_laws.specs.Laws.{CountersStayInRange}
 use Rattle.section_laws.proofs.Laws.EachKept.{EachKept, always_each}
+use Rattle.section_laws.proofs.Laws.Moves.{moves_by_ends}
 
 abbrev Holds : Hart → Type 0
 Holds hart = AreCounters hart.predictor.counters
@@ -113,16 +114,9 @@ deed_holds state h (LetsGo armed) hart now = now
 kept : EachKept Holds
 kept = record {
   bus = record {
-    moves = record {
-      posted_to = λ h hart mail now. now;
-      told = λ h hart told now. now;
-      preceded = λ h hart upstream now. now;
-      saw = λ h hart seen later now. now;
-      lost = λ h hart now. now;
-      freed = λ h pc hart now. now;
-      gave_up = λ h hart now. now;
-      tried = λ h hart more now. now;
-    };
+    moves = moves_by_ends (λ h hart other now. now)
+        (λ h hart now. now)
+        (λ h pc hart now. now);
     unraised = λ h hart now. now;
     served = λ h state request hart now. claim_holds (is_some hart.section) request _ now;
     bystander = λ h state request hart now. now;

@@ -2,6 +2,7 @@
 pub mod NewHarts
 pub mod Placed
 pub mod Mailboxes
+pub mod Asked
 pub mod Moves
 pub mod EachKept
 pub mod Statuses

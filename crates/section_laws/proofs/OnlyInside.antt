@@ -15,6 +15,7 @@ use Rattle.el_model.proofs.Laws.Unmarked.{others_unmarked, own_unmarked, touch_u
 use Rattle.section_laws.specs.EachHart.{HasBitsOnlyInside}
 use Rattle.section_laws.specs.Laws.{OnlyLiveSectionsHaveBits}
 use Rattle.section_laws.proofs.Laws.EachKept.{EachKept, always_each}
+use Rattle.section_laws.proofs.Laws.Moves.{moves_by_ends}
 
 abbrev pub Holds : Hart → Type 0
 Holds hart = HasBitsOnlyInside hart.section hart.armed hart.cache
@@ -50,16 +51,9 @@ deed_holds state h (LetsGo armed) hart now = λ none unarmed. unmarked-cleared h
 pub kept : EachKept Holds
 kept = record {
   bus = record {
-    moves = record {
-      posted_to = λ h hart mail now. now;
-      told = λ h hart told now. now;
-      preceded = λ h hart upstream now. now;
-      saw = λ h hart seen later now. now;
-      lost = λ h hart now none unarmed. unmarked-cleared hart.cache;
-      freed = λ h pc hart now none unarmed. unmarked-cleared hart.cache;
-      gave_up = λ h hart now. now;
-      tried = λ h hart more now. now;
-    };
+    moves = moves_by_ends (λ h hart other now. now)
+        (λ h hart now none unarmed. unmarked-cleared hart.cache)
+        (λ h pc hart now none unarmed. unmarked-cleared hart.cache);
     unraised = λ h hart now. now;
     served = λ h state request hart now.
         claim_holds hart.section request _ refl

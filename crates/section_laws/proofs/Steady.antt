@@ -2,7 +2,7 @@
 use Rattle.std.proofs.Common.{◌≡◌, ◌≢◌, ◌∙◌, ◌<◌, ℕ, Bool, true, false, List, [], ◌∷◌, length, Option, None, Some}
 use Rattle.std.proofs.Common.{option_map, refl, ap, sym, inl}
 use Rattle.std.proofs.Common.{inr, ◌⊎◌, arith}
-use Rattle.std.proofs.lemmas.Bool.{cases_eq}
+use Rattle.std.proofs.lemmas.Bool.{cases_eq, false_from_ne_true}
 use Rattle.std.proofs.lemmas.Option.{same_Some}
 use Rattle.residency.specs.Cache.{cleared, committed, committed_way, evicted_by, filled_with, lettered, marked}
 use Rattle.residency.specs.Cache.{set_number, set_of, touched, way_of}
@@ -167,15 +167,11 @@ together_kept a b (Some c) None first second now = tt
 together_kept None b (Some c) (Some d) first second now = elim first [ ]
 together_kept (Some a) None (Some c) (Some d) first second now = elim second [ ]
 together_kept (Some a) (Some b) (Some c) (Some d) first second now = record {
-  one_shared = unless (may_write c.letter) (λ may. clash now.one_shared (first.write may));
-  other_shared = unless (may_write d.letter) (λ may. clash now.other_shared (second.write may));
+  one_shared = false_from_ne_true (may_write c.letter) (λ may. clash now.one_shared (first.write may));
+  other_shared = false_from_ne_true (may_write d.letter) (λ may. clash now.other_shared (second.write may));
   one_owner = λ c_owns d_owns. owners (first.owner c_owns) (second.owner d_owns);
 }
   where
-    unless : (may : Bool) → (may ≡ true → ⊥) → may ≡ false
-    unless true never = absurd (never refl)
-    unless false never = refl
-
     owners : (a.letter ≡ O) ⊎ (may_write a.letter ≡ true) → (b.letter ≡ O) ⊎ (may_write b.letter ≡ true) → ⊥
     owners (inl a_owns) (inl b_owns) = now.one_owner a_owns b_owns
     owners (inr may) other = clash now.one_shared may

@@ -1,7 +1,7 @@
 -- how a state gets on: by a hart that waits for nothing, by a request or a message, or by the head of
 -- a line that no section retains
 use Rattle.std.proofs.Common.{◌≡◌, ◌∙◌, ℕ, ◌<◌, ◌==◌, true, false, ◌&&◌, not, ◌≢◌}
-use Rattle.std.proofs.Common.{List, ◌∷◌, Option, None, Some, is_some, length, refl, ap, sym, inl, inr, ◌⊎◌}
+use Rattle.std.proofs.Common.{List, ◌∷◌, Option, None, Some, length, refl, ap, sym, inl, inr, ◌⊎◌}
 use Rattle.bus_order.specs.Order.{IsOneEach, Request}
 use Rattle.bus_order.proofs.Laws.Queues.{line_of_first_of, request_of_first_of}
 use Rattle.el_base.specs.declared.config.Config.{Config}
@@ -20,7 +20,7 @@ use Rattle.el_model.specs.Next.{after, kind_turn, status_turn}
 use Rattle.el_model.specs.Order.{order_raised, order_turn}
 use Rattle.el_model.specs.Serve.{Free, Obstacle, blocks_if, obstacle_to, other_head, serve_ordered, serve_past}
 use Rattle.el_model.specs.Serve.{serve_turn}
-use Rattle.el_model.specs.State.{ModelState, begin, has_request, hart_of, head_of, is_held, is_live, numbers_of}
+use Rattle.el_model.specs.State.{ModelState, begin, has_request, hart_of, head_of, is_held, numbers_of}
 use Rattle.el_model.specs.State.{ordered_of, raised_of}
 use Rattle.el_model.proofs.Laws.Deeds.{step_deed}
 use Rattle.el_model.proofs.Laws.FromStart.{kept_after}
@@ -69,12 +69,6 @@ pub raised_runs : (state : ModelState) (h : ℕ) (request : Request) → Sound s
     status_of state.committed h ≡ Running
 raised_runs state h request sound is =
     running_status (status_of state.committed h) (λ ended. some_none (sym is ∙ ((sound h).stopped ended).not_raised))
-
-pub live_runs : (state : ModelState) (h : ℕ) → Sound state → is_live state h ≡ true →
-    status_of state.committed h ≡ Running
-live_runs state h sound live =
-    running_status (status_of state.committed h)
-    (λ ended. true_false (sym live ∙ ap is_some ((sound h).stopped ended).no_section))
 
 pub held_runs : (state : ModelState) (h line : ℕ) → Sound state → (hart_of state h).held_line ≡ Some line →
     status_of state.committed h ≡ Running

@@ -19,6 +19,7 @@ use Rattle.el_model.proofs.Laws.FromStart.{begin_config, first_outside, kept_aft
 use Rattle.removal_laws.specs.Laws.{AttemptsAreCurrent, StampsAreDistinct}
 use Rattle.el_model.proofs.Laws.EachHart.{Each}
 use Rattle.section_laws.proofs.Laws.EachKept.{BusKept, event_keeps}
+use Rattle.section_laws.proofs.Laws.Moves.{moves_by_ends}
 use Rattle.section_laws.proofs.Laws.NewHarts.{each_new}
 use Rattle.stamp.specs.Stamps.{Stamp}
 
@@ -44,16 +45,9 @@ module _ (P : ℕ → Option Section → ℕ → Option Stamp → Type 0) (keeps
 
   pub attempts_kept : BusKept (λ h hart. P h hart.section hart.clock hart.attempt)
   attempts_kept = record {
-    moves = record {
-      posted_to = λ h hart mail now. now;
-      told = λ h hart told now. now;
-      preceded = λ h hart upstream now. now;
-      saw = λ h hart seen later now. now;
-      lost = λ h hart now. keeps.lost h hart.section hart.clock hart.attempt now;
-      freed = λ h pc hart now. now;
-      gave_up = λ h hart now. now;
-      tried = λ h hart more now. now;
-    };
+    moves = moves_by_ends (λ h hart other now. now)
+        (λ h hart now. keeps.lost h hart.section hart.clock hart.attempt now)
+        (λ h pc hart now. now);
     unraised = λ h hart now. now;
     served = λ h state request hart now. claim_keeps h (is_some hart.section) request _ now;
     bystander = λ h state request hart now. now;

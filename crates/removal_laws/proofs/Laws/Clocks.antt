@@ -2,6 +2,7 @@
 use Rattle.std.proofs.Common.{◌≡◌, ◌∙◌, ◌<◌, ◌≤◌, ◌==◌, ◌&&◌, ◌||◌, ℕ, Bool, true, false, List, [], ◌∷◌, Option, None}
 use Rattle.std.proofs.Common.{Some, is_some, length, refl}
 use Rattle.std.proofs.Common.{ap, sym, arith}
+use Rattle.std.proofs.Math.Nat.{le_refl}
 use Rattle.bus_order.specs.Order.{Request}
 use Rattle.el_base.specs.declared.config.Mode.{Mode}
 use Rattle.el_base.specs.declared.config.Mode.TheVariants.{Plain, Sle, Tlr}
@@ -24,7 +25,6 @@ use Rattle.el_model.proofs.Laws.FromStart.{kept_after}
 use Rattle.removal_laws.specs.Laws.{IsLater, LaterAttemptsAreLater, StampsAreKept, attempt_of, closes}
 use Rattle.removal_laws.proofs.Laws.Attempts.{AllOpen, Own, always_open, always_own, attempts_kept, candidate_keeps}
 use Rattle.removal_laws.proofs.Laws.Attempts.{next_open, next_own}
-use Rattle.section_laws.proofs.Laws.Bits.{no_less}
 use Rattle.section_laws.specs.Sections.{is_committed, is_rolled_back}
 use Rattle.el_model.proofs.Laws.EachHart.{Each, each_but, each_with}
 use Rattle.section_laws.proofs.Laws.EachKept.{BusKept, event_keeps, turn_keeps}
@@ -138,7 +138,7 @@ closed_grows hart None = omega arith
 closed_grows hart (Some stamp) = omega arith
 
 ungrown : (hart : Hart) → Grown hart hart
-ungrown hart = record { clock = no_less hart.clock; seen = no_less hart.seen }
+ungrown hart = record { clock = le_refl hart.clock; seen = le_refl hart.seen }
 
 deed_grows : (state : ModelState) (h : ℕ) (deed : Deed) (hart : Hart) → Grown hart (hart_after state h deed hart)
 deed_grows state h Rests hart = ungrown hart
@@ -148,16 +148,16 @@ deed_grows state h (Runs touch) hart =
     record {
       clock =
           candidate_keeps (λ section clock seen attempt. hart.clock ≤ clock) _ _ (candidate_of state h) _
-          (no_less hart.clock);
+          (le_refl hart.clock);
       seen =
           candidate_keeps (λ section clock seen attempt. hart.seen ≤ seen) _ _ (candidate_of state h) _
-          (no_less hart.seen);
+          (le_refl hart.seen);
     }
 deed_grows state h (Begins swap) hart = same_clocks hart hart _ refl refl (ungrown hart)
 deed_grows state h (Buffers section touch) hart = same_clocks hart hart _ refl refl (ungrown hart)
-deed_grows state h (Commits section) hart = record { clock = closed_grows hart hart.attempt; seen = no_less hart.seen }
+deed_grows state h (Commits section) hart = record { clock = closed_grows hart hart.attempt; seen = le_refl hart.seen }
 deed_grows state h (RollsBack section cause) hart =
-    record { clock = closed_grows hart hart.attempt; seen = no_less hart.seen }
+    record { clock = closed_grows hart hart.attempt; seen = le_refl hart.seen }
 deed_grows state h (Arms word) hart = same_clocks hart hart _ refl refl (ungrown hart)
 deed_grows state h (Elides armed swap) hart = same_clocks hart hart _ refl refl (ungrown hart)
 deed_grows state h (Continues armed) hart = same_clocks hart hart _ refl refl (ungrown hart)

@@ -8,9 +8,8 @@ use Rattle.std.proofs.lemmas.Bool.{cases_eq, or_right}
 use Rattle.bus_order.specs.Order.{Request}
 use Rattle.residency.specs.Cache.{bit_in, evicted_by, filled_with, is_resident, lettered, marked, set_number, set_of}
 use Rattle.residency.specs.Cache.{touched, way_of}
-use Rattle.residency.specs.Residency.{Way, filled_in, is_marked, victim_in, way_in, with_bit, with_letter}
-use Rattle.residency.proofs.Laws.CacheLemmas.{set_of-with_set_other, way_of-filled_with_other, way_of-lettered_other}
-use Rattle.residency.proofs.Laws.CacheLemmas.{way_of-lettered_same}
+use Rattle.residency.specs.Residency.{Way, filled_in, is_marked, victim_in, way_in, with_bit}
+use Rattle.residency.proofs.Laws.CacheLemmas.{set_of-with_set_other, way_of-filled_with_other}
 use Rattle.residency.proofs.Laws.CacheLemmas.{way_of-marked_other, way_of-marked_same, way_of-touched}
 use Rattle.residency.proofs.Laws.CacheLemmas.{way_of-without_line_other}
 use Rattle.residency.proofs.Laws.ResidencyLemmas.{evicted_in-victim, victim_in-unmarked}
@@ -26,6 +25,7 @@ use Rattle.el_model.proofs.Laws.Tests.{by_test}
 use Rattle.moesi.specs.declared.letter.Letter.{Letter}
 use Rattle.rv_flat.specs.FlatState.{FlatState}
 use Rattle.section_laws.specs.Once.{AreOnce, IsOnce}
+use Rattle.section_laws.proofs.Laws.Bits.{bit_lettered}
 use Rattle.section_laws.proofs.Laws.OnceEach.{once_at}
 use Rattle.run_laws.specs.PrivateRun.{HasItsBit, IsAcquire, IsArmedRun, IsCoveredRun, IsCoveredStep}
 
@@ -39,13 +39,7 @@ KeepsBits old new = (line : ℕ) → KeepsBit old new line
 pub same_bits : (cache : List (List Way)) → KeepsBits cache cache
 same_bits cache line need bit = bit
 
--- a way with another letter, and with one bit more
-bit_lettered : (letter : Letter) (need : Need) (way : Option Way) → bit_in need way ≡ true →
-    bit_in need (option_map (with_letter letter) way) ≡ true
-bit_lettered letter need None bit = bit
-bit_lettered letter Read (Some way) bit = bit
-bit_lettered letter Write (Some way) bit = bit
-
+-- a way with one bit more
 bit_marked : (more need : Need) (way : Option Way) → bit_in need way ≡ true →
     bit_in need (option_map (with_bit more) way) ≡ true
 bit_marked more need None bit = bit
@@ -65,14 +59,7 @@ bits_touched cache line l need bit = ap (bit_in need) (way_of-touched cache line
 
 pub bits_lettered : (cache : List (List Way)) (line : ℕ) (letter : Letter) →
     KeepsBits cache (lettered cache line letter)
-bits_lettered cache line letter l need bit = at (cases_eq l line)
-  where
-    at : (l ≡ line) ⊎ (l ≡ line → ⊥) → bit_in need (way_of (lettered cache line letter) l) ≡ true
-    at (inl same) =
-        rw same
-        (rw (way_of-lettered_same cache line letter)
-        (bit_lettered letter need (way_of cache line) (ap (λ l. bit_in need (way_of cache l)) (sym same) ∙ bit)))
-    at (inr other) = ap (bit_in need) (way_of-lettered_other cache line l letter other) ∙ bit
+bits_lettered cache line letter l need bit = bit_lettered cache line l letter need ∙ bit
 
 pub bits_marked : (cache : List (List Way)) (line : ℕ) (more : Need) → KeepsBits cache (marked cache line more)
 bits_marked cache line more l need bit = at (cases_eq l line)

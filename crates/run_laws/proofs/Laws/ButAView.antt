@@ -10,6 +10,7 @@ use Rattle.rv_alu.specs.declared.footprint.Access.{Access}
 use Rattle.rv_alu.specs.declared.footprint.Access.TheVariants.{Nothing, Read, Write, Trap, Exit}
 use Rattle.rv_alu.specs.declared.view.HartStatus.TheVariants.{Running}
 use Rattle.rv_alu.specs.declared.view.HartView.{HartView}
+use Rattle.rv_flat.proofs.Laws.Shapes.{keeps_own_shape, keeps_twice}
 use Rattle.rv_flat.proofs.Laws.StepLaws.{keeps_others, keeps_shape, running}
 use Rattle.rv_flat.specs.FlatState.{FlatState, room_of, span_of, status_of, view_of}
 use Rattle.rv_flat.specs.Laws.{next_insn, seen_after}
@@ -24,16 +25,14 @@ use Rattle.run_laws.specs.PrivateRun.{IsArmedRun, KeepsAllButAView, KeepsAllButV
 use Rattle.el_base.proofs.Laws.Tests.{first_not}
 
 pub same_but_views : (state : FlatState) → KeepsAllButViews state state
-same_but_views state = record { base = refl; bytes = refl; code = refl; output = refl; harts = refl }
+same_but_views state = record { shape = keeps_own_shape state; bytes = refl; output = refl }
 
 pub but_views_twice : (one two three : FlatState) → KeepsAllButViews one two → KeepsAllButViews two three →
     KeepsAllButViews one three
 but_views_twice one two three first second = record {
-  base = second.base ∙ first.base;
+  shape = keeps_twice one two three first.shape second.shape;
   bytes = second.bytes ∙ first.bytes;
-  code = second.code ∙ first.code;
   output = second.output ∙ first.output;
-  harts = second.harts ∙ first.harts;
 }
 
 pub same_but_a_view : (h : ℕ) (state : FlatState) → KeepsAllButAView h state state
@@ -69,11 +68,9 @@ step_keeps : (state : FlatState) (h : ℕ) → status_of state h ≡ Running →
     KeepsAllButAView h state (flat state h)
 step_keeps state h runs silent = record {
   rest = record {
-    base = (keeps_shape state h).base;
+    shape = keeps_shape state h;
     bytes = keeps_memory state h runs silent.writes_none;
-    code = (keeps_shape state h).code;
     output = same_output state h runs (first_not (calls (next_insn state h)) _ silent.goes_on);
-    harts = (keeps_shape state h).harts;
   };
   others = λ g apart.
       keeps_others state h g apart ∙ ap (λ access. seen_after access (view_of state g)) (running_footprint state h runs)

@@ -34,6 +34,7 @@ use Rattle.run_laws.proofs.Laws.Alike.{alone_more}
 use Rattle.run_laws.proofs.Laws.Reserving.{acquires_at, quiet_of, reserves}
 use Rattle.run_laws.specs.PrivateRun.{HasItsBit, IsAcquire, IsArmedRun, IsCoveredRun, IsCoveredStep}
 use Rattle.section_laws.proofs.Laws.ArmedBits.{completing}
+use Rattle.section_laws.proofs.Laws.Bits.{read_bit_marked}
 
 -- an instruction that does not stop its hart leaves it as it was in this
 perform_status : (action : Action) (view : HartView) (byte : ℕ → ℕ) → stops (perform action view byte) ≡ false →
@@ -80,12 +81,6 @@ keeps_marked cache line l =
     bits_twice cache (marked cache line Read) _ l (bits_marked cache line Read l)
     (bits_touched (marked cache line Read) line l)
 
-read_marked : (cache : List (List Way)) (line : ℕ) → may_read (letter_in (way_of cache line)) ≡ true →
-    read_bit (touched (marked cache line Read) line) line ≡ true
-read_marked cache line may =
-    bits_touched (marked cache line Read) line line Read
-    (marked_has_bit cache line Read (resident_way (way_of cache line) Read may))
-
 -- a section that begins
 begun : (committed : FlatState) (h : ℕ) (cache : List (List Way)) (before : ℕ) (swap : Swap) →
     IsAcquire committed h cache before swap →
@@ -116,7 +111,7 @@ begun_run state h swap may =
     (record { count = suc (armed_count armed); word = swap.word; old = swap.old; new = swap.new }))
     (sym may.outside.unarmed)
     (begun state.committed h (cache_of state h) 0 swap may.elidable.next
-    (read_marked (cache_of state h) (line_number swap.word) may.readable)
+    (read_bit_marked (cache_of state h) (line_number swap.word) may.readable)
     (λ n within. let none : n ≡ 0 = omega (arith, within) in rw none may.outside.running))
 
 -- at the SC of an armed section
@@ -162,7 +157,7 @@ arming_run state h word may = record {
   some = omega arith;
   reserve = may.reserving.next;
   read =
-      read_marked (cache_of state h) (line_number word)
+      read_bit_marked (cache_of state h) (line_number word)
       (first_of_both (may_read (letter_in (way_of (cache_of state h) (line_number word)))) _ may.may_open);
   running = λ n within.
       one_more_runs state.committed h 0

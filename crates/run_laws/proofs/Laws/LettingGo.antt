@@ -11,21 +11,19 @@ use Rattle.el_base.proofs.Laws.MadeLosers.{count_in-beyond, none_in_no_one}
 use Rattle.el_base.specs.Freed.{count_in, order_below, order_of}
 use Rattle.el_base.specs.declared.freed.Freed.{Freed}
 use Rattle.el_base.proofs.Laws.Cases.{clash, none_some}
-use Rattle.el_model.specs.Armed.{freed_by, freed_count, freed_hart, is_freed, let_go, let_go_hart}
+use Rattle.el_model.specs.Armed.{freed_by, freed_count, is_freed, let_go}
 use Rattle.el_model.specs.BusEvent.{Becomes, Frees, IsBusEvent, Start, as_met, faced_head, freed_in}
 use Rattle.el_model.specs.Face.{freed_if, met}
 use Rattle.el_model.specs.Plain.{armed_count}
 use Rattle.el_model.specs.State.{Armed, Hart, ModelState, Turn, armed_of, cache_of, hart_of}
 use Rattle.el_model.proofs.Laws.BusEvents.{met_becomes}
-use Rattle.el_model.proofs.Laws.EachHart.{each_become}
-use Rattle.el_model.proofs.Laws.Harts.{hart_of-past}
 use Rattle.el_model.proofs.Laws.Tests.{by_test}
 use Rattle.el_model.proofs.Laws.HartParts.{claim_armed}
 use Rattle.rv_flat.proofs.Laws.StepLaws.{run_append}
 use Rattle.rv_flat.specs.FlatState.{FlatState, view_of}
 use Rattle.rv_flat.specs.Run.{alone, run}
 use Rattle.section_laws.proofs.Laws.EachKept.{BusKept, becomes_keeps}
-use Rattle.section_laws.proofs.Laws.Moves.{Moves, faced_keeps, freed_is_armed}
+use Rattle.section_laws.proofs.Laws.Moves.{Moves, freed_is_armed, met_keeps, moves_by_ends}
 use Rattle.section_laws.proofs.Laws.SerialLength.{freed_at_most}
 use Rattle.section_laws.proofs.Laws.Statuses.{unfreed_count}
 use Rattle.run_laws.proofs.Beside.{armed_beside, beside_twice, same_beside}
@@ -115,7 +113,7 @@ module _ (committed : FlatState) (caches : ℕ → List (List Way)) (freed : Fre
   freed_keeps = below_keeps 8
 
   pub freed_memory : KeepsMemory committed (run committed (order_of freed))
-  freed_memory = record { base = freed_keeps.base; bytes = freed_keeps.bytes }
+  freed_memory = record { base = freed_keeps.shape.base; bytes = freed_keeps.bytes }
 
   -- a hart that is let go changes no other's view
   same_view : (n g count : ℕ) → count_in freed n ≡ count → (1 ≤ count_in freed n → g ≢ n) →
@@ -167,16 +165,9 @@ module _ (committed : FlatState) (caches : ℕ → List (List Way)) (freed : Fre
 same_armed : (old : ModelState) →
     BusKept (λ h hart. (armed : Armed) → hart.armed ≡ Some armed → armed_of old h ≡ Some armed)
 same_armed old = record {
-  moves = record {
-    posted_to = λ h hart mail now. now;
-    told = λ h hart told now. now;
-    preceded = λ h hart upstream now. now;
-    saw = λ h hart seen later now. now;
-    lost = λ h hart now armed is. none_some is;
-    freed = λ h pc hart now armed is. none_some is;
-    gave_up = λ h hart now. now;
-    tried = λ h hart more now. now;
-  };
+  moves = moves_by_ends (λ h hart other now. now)
+      (λ h hart now armed is. none_some is)
+      (λ h pc hart now armed is. none_some is);
   unraised = λ h hart now. now;
   served = λ h state request hart now armed is. now armed (sym (claim_armed (is_some hart.section) request _) ∙ is);
   bystander = λ h state request hart now. now;
@@ -284,28 +275,15 @@ Ending state head h hart = is_freed head h (hart_of state h) ≡ true → hart.a
 
 ending_moves : (state : ModelState) (head : Request) → Moves (Ending state head)
 unfolding Ending
-ending_moves state head = record {
-  posted_to = λ h hart mail now. now;
-  told = λ h hart told now. now;
-  preceded = λ h hart upstream now. now;
-  saw = λ h hart seen later now. now;
-  lost = λ h hart now freed. refl;
-  freed = λ h pc hart now freed. refl;
-  gave_up = λ h hart now. now;
-  tried = λ h hart more now. now;
-}
+ending_moves state head = moves_by_ends (λ h hart other now. now)
+    (λ h hart now freed. refl)
+    (λ h pc hart now freed. refl)
 
 met_ends : (state : ModelState) (head : Request) (h : ℕ) → is_freed head h (hart_of state h) ≡ true →
     (hart_of (met state head) h).armed ≡ None
-unfolding Ending let_go
+unfolding Ending
 met_ends state head =
-    faced_keeps (ending_moves state head) (let_go state head) head
-    (each_become (Ending state head) state (freed_hart state head)
-    (λ h.
-    by_test (Ending state head h) (is_freed head h (hart_of state h))
-    (let_go_hart (view_of state.committed h).pc (hart_of state h)) (hart_of state h)
-    (λ freed is. refl) (λ unfreed is. clash unfreed is))
-    (λ h past is. ap (λ hart. hart.armed) (hart_of-past state h past)))
+    met_keeps (ending_moves state head) state head (λ h freed is. refl) (λ h unfreed is. clash unfreed is)
 
 pub spared_or_gone : {state : ModelState} {by : ℕ} {turn : Turn} → (done : IsBusEvent state by turn) → (g : ℕ) →
     (count_in (freed_in state by done.start) g ≡ 0) ⊎ IsGone state turn.state g

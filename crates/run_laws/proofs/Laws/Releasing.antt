@@ -1,11 +1,8 @@
 -- a section that comes to its release commits
-use Rattle.std.proofs.Common.{◌≡◌, ◌∙◌, ◌==◌, ℕ, true, false, List, Some, refl, ap, sym, if◌then◌else◌}
-use Rattle.el_base.specs.declared.config.Config.{Config}
+use Rattle.std.proofs.Common.{◌≡◌, ◌∙◌, ◌==◌, ℕ, true, false, Some, is_some, refl, ap, if◌then◌else◌}
 use Rattle.el_base.specs.declared.events.Event.{Event}
 use Rattle.el_base.specs.declared.events.Kind.TheVariants as kinds
-use Rattle.el_base.proofs.Laws.Cases.{some_none}
 use Rattle.el_base.proofs.Laws.Tests.{other_test}
-use Rattle.elf_image.specs.Program.{Program}
 use Rattle.el_model.specs.InSection.{Commits, by_section_rule, section_rule, section_turn, shown_in}
 use Rattle.el_model.specs.Next.{after, going_turn, kind_turn, next, stalled, status_turn, step_turn}
 use Rattle.el_model.specs.State.{ModelState, Section, has_request, section_of}
@@ -13,18 +10,10 @@ use Rattle.el_model.specs.Upcoming.{is_release}
 use Rattle.el_model.proofs.Laws.FromStart.{after_config}
 use Rattle.rv_alu.specs.declared.view.HartStatus.TheVariants.{Running}
 use Rattle.rv_flat.specs.FlatState.{status_of}
-use Rattle.rv_flat.proofs.Laws.RunsAfter.{running_status}
 use Rattle.section_laws.proofs.Laws.Numbered.{each_hart_waits_for_one}
+use Rattle.section_laws.proofs.Laws.Waiting.{live_runs}
 use Rattle.run_laws.proofs.Laws.WordStores.{releases}
 use Rattle.run_laws.specs.Laws.{ReleasesCommit, TakesEffect}
-
--- a hart with a live section runs
-live_runs : (program : Program) (config : Config) (events : List Event) (h : ℕ) (section : Section) →
-    section_of (after program config events) h ≡ Some section →
-    status_of (after program config events).committed h ≡ Running
-live_runs program config events h section live =
-    running_status (status_of (after program config events).committed h)
-    (λ stopped. some_none (sym live ∙ ((each_hart_waits_for_one program config events h).stopped stopped).no_section))
 
 commits_by_rule : (state : ModelState) (h : ℕ) (section : Section) → (section.count == state.config.long) ≡ false →
     is_release (shown_in state h section) h section.word section.old ≡ true → section_rule state h section ≡ Commits
@@ -56,5 +45,6 @@ releases_commit program config events event section step live free longest relea
     let short = ap (λ config. section.count == config.long) (after_config program config events)
     ∙ other_test section.count config.long longest in
     takes_effect state event section
-    (commits_next state event section step (live_runs program config events h section live) free live
+    (commits_next state event section step
+    (live_runs state h (each_hart_waits_for_one program config events) (ap is_some live)) free live
     (commits_by_rule state h section short release))

@@ -38,7 +38,7 @@ use Rattle.rv_word.specs.declared.insn.Insn.{Insn}
 use Rattle.rv_word.specs.declared.insn.Insn.TheVariants as insns
 use Rattle.rv_word.specs.declared.reg.Reg.{Reg}
 use Rattle.run_laws.proofs.Laws.Alike.{alone_base, alone_more}
-use Rattle.run_laws.proofs.Laws.WordStores.{StoresWord, acquires, stores_word, writes_store}
+use Rattle.run_laws.proofs.Laws.WordStores.{StoresWord, acquires, exchanges, writes_store}
 use Rattle.run_laws.specs.PrivateRun.{IsAcquire, IsArmedRun}
 use Rattle.el_base.proofs.Laws.Tests.{first_of_both, second_of_both}
 use Rattle.el_base.proofs.Laws.Options.{none_from}
@@ -306,24 +306,13 @@ completes_by state h swap is = by (is_store_conditional (next_insn state h)) ref
         sc-length sc.word sc.rd sc.rs1 sc.rs2 sc.aq sc.rl view (span_of state) (room_of state) store.address
         store.len sc.means writes
 
-    found : is_store_conditional (next_insn state h) ≡ true → (store : Option Store) → next_store state h ≡ store →
-        swap_of state store ≡ Some swap → Completes state h swap
-    found conditional None none is = absurd (cc)
-    found conditional (Some store) stores is =
-        let same = same_Some _ swap is in
-        record {
-          conditional = conditional;
-          stores =
-              stores_word state h swap.word swap.new store stores (ap (λ swap. swap.word) same)
-              (length_of conditional store stores)
-              (ap (λ swap. swap.new) same) (conditional_no_call (next_insn state h) conditional);
-          old = sym (ap (λ swap. swap.old) same)
-              ∙ ap (λ word. loaded (byte_in state.base state.bytes) word 4) (ap (λ swap. swap.word) same);
-        }
-
     by : (conditional : Bool) → is_store_conditional (next_insn state h) ≡ conditional →
         (if conditional then swap_of state (next_store state h) else None) ≡ Some swap → Completes state h swap
-    by true conditional is = found conditional (next_store state h) refl is
+    by true conditional is =
+        let it =
+        exchanges state h swap (length_of conditional) (conditional_no_call (next_insn state h) conditional)
+        (next_store state h) refl is in
+        record { conditional = conditional; stores = it.stores; old = it.old }
     by false conditional is = absurd (cc)
 
 -- an acquire, by a swap or by an SC: it would store the new value, and finds the old one in memory as it is committed

@@ -2,6 +2,7 @@
 use Rattle.std.proofs.Common.{◌≡◌, ◌∙◌, ℕ, ℤ, Bool, true, false, ◌||◌, Option, None, Some, refl, ap, sym, if◌then◌else◌}
 use Rattle.std.proofs.Common.{◌==◌}
 use Rattle.std.specs.Prelude.{MatchOption}
+use Rattle.std.proofs.lemmas.Option.{same_Some}
 use Rattle.elf_image.specs.Program.{code_word}
 use Rattle.el_model.specs.Upcoming.{Swap, calls, calls_or_stops, gives_back, is_release, is_swap, is_word}
 use Rattle.el_model.specs.Upcoming.{is_word_store, next_access, next_execution}
@@ -154,6 +155,25 @@ stores_word state h word value store is address len same none =
       goes_on = rw (none, storing_goes (next_execution state h) store is) refl;
     }
 
+-- the exchange that comes next, by an instruction that stores a word and makes no call
+pub record Exchanges (state : FlatState) (h : ℕ) (swap : Swap) : Type 0 where
+  pub stores : StoresWord state h swap.word swap.new
+  pub old : swap.old ≡ loaded (byte_in state.base state.bytes) swap.word 4
+
+pub exchanges : (state : FlatState) (h : ℕ) (swap : Swap) →
+    ((store : Store) → next_store state h ≡ Some store → store.len ≡ 4) → calls (next_insn state h) ≡ false →
+    (store : Option Store) → next_store state h ≡ store → swap_of state store ≡ Some swap → Exchanges state h swap
+exchanges state h swap len none None stores is = absurd (cc)
+exchanges state h swap len none (Some store) stores is =
+    let same = same_Some _ swap is in
+    record {
+      stores =
+          stores_word state h swap.word swap.new store stores (ap (λ swap. swap.word) same) (len store stores)
+          (ap (λ swap. swap.new) same) none;
+      old = sym (ap (λ swap. swap.old) same)
+          ∙ ap (λ word. loaded (byte_in state.base state.bytes) word 4) (ap (λ swap. swap.word) same);
+    }
+
 -- the swap that comes next
 pub record Acquires (state : FlatState) (h : ℕ) (swap : Swap) : Type 0 where
   pub swaps : is_swap (next_insn state h) ≡ true
@@ -163,27 +183,13 @@ pub record Acquires (state : FlatState) (h : ℕ) (swap : Swap) : Type 0 where
 pub acquires : (state : FlatState) (h : ℕ) (swap : Swap) → next_swap state h ≡ Some swap → Acquires state h swap
 acquires state h swap is = by (is_swap (next_insn state h)) refl is
   where
-    same_some : {A : Type 0} (x y : A) → Some x ≡ Some y → x ≡ y
-    same_some x y same = cc
-
-    found : is_swap (next_insn state h) ≡ true → (store : Option Store) → next_store state h ≡ store →
-        swap_of state store ≡ Some swap → Acquires state h swap
-    found swaps None none is = absurd (cc)
-    found swaps (Some store) stores is =
-        let same = same_some _ swap is in
-        record {
-          swaps = swaps;
-          stores =
-              stores_word state h swap.word swap.new store stores (ap (λ swap. swap.word) same)
-              (swap_length state h store swaps stores)
-              (ap (λ swap. swap.new) same) (swap_no_call (next_insn state h) swaps);
-          old = sym (ap (λ swap. swap.old) same)
-              ∙ ap (λ word. loaded (byte_in state.base state.bytes) word 4) (ap (λ swap. swap.word) same);
-        }
-
     by : (swaps : Bool) → is_swap (next_insn state h) ≡ swaps →
         (if swaps then swap_of state (next_store state h) else None) ≡ Some swap → Acquires state h swap
-    by true swaps is = found swaps (next_store state h) refl is
+    by true swaps is =
+        let it =
+        exchanges state h swap (λ store. swap_length state h store swaps) (swap_no_call (next_insn state h) swaps)
+        (next_store state h) refl is in
+        record { swaps = swaps; stores = it.stores; old = it.old }
     by false swaps is = absurd (cc)
 
 -- and a release

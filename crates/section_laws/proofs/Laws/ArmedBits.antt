@@ -24,6 +24,7 @@ use Rattle.section_laws.proofs.Laws.Bits.{NoBitMore, no_more_marked, no_more_oth
 use Rattle.section_laws.proofs.Laws.Bits.{no_more_twice}
 use Rattle.section_laws.proofs.Laws.Bits.{write_of_read_marked}
 use Rattle.section_laws.proofs.Laws.EachKept.{BusKept, EachKept}
+use Rattle.section_laws.proofs.Laws.Moves.{moves_by_ends}
 use Rattle.section_laws.proofs.OnlyInside as inside
 
 pub record ReadsAlone (word : ℕ) (section : Option Section) (cache : List (List Way)) : Type 0 where
@@ -133,16 +134,9 @@ deed_alone state h (LetsGo armed) does now = λ other is. none_some is
 pub kept : EachKept Holds
 kept = record {
   bus = record {
-    moves = record {
-      posted_to = λ h hart mail now. now;
-      told = λ h hart told now. now;
-      preceded = λ h hart upstream now. now;
-      saw = λ h hart seen later now. now;
-      lost = λ h hart now. (bare.moves.lost h hart now.0, λ armed is. none_some is);
-      freed = λ h pc hart now. (bare.moves.freed h pc hart now.0, λ armed is. none_some is);
-      gave_up = λ h hart now. now;
-      tried = λ h hart more now. now;
-    };
+    moves = moves_by_ends (λ h hart other now. now)
+        (λ h hart now. (bare.moves.lost h hart now.0, λ armed is. none_some is))
+        (λ h pc hart now. (bare.moves.freed h pc hart now.0, λ armed is. none_some is));
     unraised = λ h hart now. now;
     served = λ h state request hart now. (
       bare.served h state request hart now.0,

@@ -21,6 +21,7 @@ use Rattle.section_laws.specs.Laws.{ArmedSectionsAreShort}
 use Rattle.el_model.proofs.Laws.EachHart.{Each}
 use Rattle.el_model.proofs.Laws.HartParts.{candidate_armed, claim_armed}
 use Rattle.section_laws.proofs.Laws.EachKept.{BusKept, event_keeps}
+use Rattle.section_laws.proofs.Laws.Moves.{moves_by_ends}
 use Rattle.section_laws.proofs.Laws.NewHarts.{each_new}
 
 abbrev Short : ℕ → Hart → Type 0
@@ -28,16 +29,9 @@ Short long hart = (armed : Armed) → hart.armed ≡ Some armed → IsShortArmed
 
 kept : (long : ℕ) → BusKept (λ h hart. Short long hart)
 kept long = record {
-  moves = record {
-    posted_to = λ h hart mail now. now;
-    told = λ h hart told now. now;
-    preceded = λ h hart upstream now. now;
-    saw = λ h hart seen later now. now;
-    lost = λ h hart now armed is. none_some is;
-    freed = λ h pc hart now armed is. none_some is;
-    gave_up = λ h hart now. now;
-    tried = λ h hart more now. now;
-  };
+  moves = moves_by_ends (λ h hart other now. now)
+      (λ h hart now armed is. none_some is)
+      (λ h pc hart now armed is. none_some is);
   unraised = λ h hart now. now;
   served = λ h state request hart now armed is. now armed (sym (claim_armed (is_some hart.section) request _) ∙ is);
   bystander = λ h state request hart now. now;

@@ -1,11 +1,11 @@
 -- which sections meet a request, and how a change of a cache leaves no bit more
-use Rattle.std.proofs.Common.{◌≡◌, ◌≢◌, ◌∙◌, ◌≤◌, ◌==◌, ◌&&◌, ◌||◌, ℕ, Bool, true, false, not, List, [], ◌∷◌, Option}
+use Rattle.std.proofs.Common.{◌≡◌, ◌≢◌, ◌∙◌, ◌==◌, ◌&&◌, ◌||◌, ℕ, Bool, true, false, not, List, [], ◌∷◌, Option}
 use Rattle.std.proofs.Common.{None, Some, is_some, option_map}
 use Rattle.std.proofs.Common.{refl, ap, sym, inl, inr, ◌⊎◌, arith}
-use Rattle.std.proofs.lemmas.Bool.{and_from, cases_eq, or_left, or_right}
+use Rattle.std.proofs.lemmas.Bool.{and_from, cases_eq, or_cases, or_left, or_right}
 use Rattle.bus_order.specs.Order.{Request}
-use Rattle.residency.specs.Cache.{bit_in, cleared, filled_with, has_bit, is_resident, letter_of, lettered, marked}
-use Rattle.residency.specs.Cache.{touched, way_of, without_line}
+use Rattle.residency.specs.Cache.{bit_in, cleared, filled_with, has_bit, is_resident, letter_in, letter_of, lettered}
+use Rattle.residency.specs.Cache.{marked, read_bit, touched, way_of, without_line}
 use Rattle.residency.specs.Residency.{Way, with_bit, with_letter, without_bits}
 use Rattle.residency.proofs.Laws.CacheLemmas.{way_of-cleared, way_of-filled_with_same, way_of-lettered_other}
 use Rattle.residency.proofs.Laws.CacheLemmas.{way_of-lettered_same}
@@ -20,16 +20,9 @@ use Rattle.el_model.specs.Conflicts.{conflicts, meets_bit}
 use Rattle.el_model.specs.Serve.{given_up, kept_letter, others_cache, own_copy}
 use Rattle.el_model.specs.State.{Hart}
 use Rattle.el_model.proofs.Laws.Tests.{by_test}
-use Rattle.moesi.specs.Letters.{filled_of, on_read_of}
+use Rattle.moesi.specs.Letters.{filled_of, may_read, on_read_of}
 use Rattle.moesi.specs.declared.letter.Letter.{Letter}
 use Rattle.section_laws.proofs.Steady.{StaysOrLeaves, other_filled}
-
-pub either : (a b : Bool) → (a || b) ≡ true → (a ≡ true) ⊎ (b ≡ true)
-either true b is = inl refl
-either false b is = inr is
-
-pub no_less : (n : ℕ) → n ≤ n
-no_less n = omega arith
 
 -- a section that meets a request: it is live, another hart's, and has a bit in the way
 pub record Meets (request : Request) (h : ℕ) (hart : Hart) : Type 0 where
@@ -71,7 +64,7 @@ no_more_none old = record { read = λ is. absurd (cc); write = λ is. absurd (cc
 
 pub no_more_any : (old new : Option Way) → NoMore old new → (bit_in Read new || bit_in Write new) ≡ true →
     (bit_in Read old || bit_in Write old) ≡ true
-no_more_any old new no_more is = by (either (bit_in Read new) (bit_in Write new) is)
+no_more_any old new no_more is = by (or_cases (bit_in Read new) (bit_in Write new) is)
   where
     by : (bit_in Read new ≡ true) ⊎ (bit_in Write new ≡ true) → (bit_in Read old || bit_in Write old) ≡ true
     by (inl read) = or_left _ (bit_in Write old) (no_more.read read)
@@ -87,17 +80,29 @@ no_more_equal old new same = rw same (no_more_same old)
 pub no_more_touched : (cache : List (List Way)) (line l : ℕ) → NoBitMore cache (touched cache line) l
 no_more_touched cache line l = no_more_equal (way_of cache l) _ (way_of-touched cache line l)
 
-lettered_bits : (letter : Letter) (way : Option Way) → NoMore way (option_map (with_letter letter) way)
-lettered_bits letter None = no_more_none None
-lettered_bits letter (Some way) = record { read = λ is. is; write = λ is. is }
+-- another letter leaves the bits
+same_bit : (letter : Letter) (need : Need) (way : Option Way) →
+    bit_in need (option_map (with_letter letter) way) ≡ bit_in need way
+same_bit letter need None = refl
+same_bit letter Read (Some way) = refl
+same_bit letter Write (Some way) = refl
+
+pub bit_lettered : (cache : List (List Way)) (line l : ℕ) (letter : Letter) (need : Need) →
+    bit_in need (way_of (lettered cache line letter) l) ≡ bit_in need (way_of cache l)
+bit_lettered cache line l letter need = at (cases_eq l line)
+  where
+    at : (l ≡ line) ⊎ (l ≡ line → ⊥) →
+        bit_in need (way_of (lettered cache line letter) l) ≡ bit_in need (way_of cache l)
+    at (inl same) =
+        rw same (ap (bit_in need) (way_of-lettered_same cache line letter) ∙ same_bit letter need (way_of cache line))
+    at (inr other) = ap (bit_in need) (way_of-lettered_other cache line l letter other)
 
 no_more_lettered : (cache : List (List Way)) (line l : ℕ) (letter : Letter) →
     NoBitMore cache (lettered cache line letter) l
-no_more_lettered cache line l letter = at (cases_eq l line)
-  where
-    at : (l ≡ line) ⊎ (l ≡ line → ⊥) → NoBitMore cache (lettered cache line letter) l
-    at (inl same) = rw same (rw (way_of-lettered_same cache line letter) (lettered_bits letter (way_of cache line)))
-    at (inr other) = no_more_equal (way_of cache l) _ (way_of-lettered_other cache line l letter other)
+no_more_lettered cache line l letter = record {
+  read = λ is. sym (bit_lettered cache line l letter Read) ∙ is;
+  write = λ is. sym (bit_lettered cache line l letter Write) ∙ is;
+}
 
 no_more_bare : (way : Option Way) → NoMore way (option_map without_bits way)
 no_more_bare None = no_more_none None
@@ -162,6 +167,17 @@ read_marked (Some way) is = is
 pub write_of_read_marked : (cache : List (List Way)) (line : ℕ) →
     bit_in Write (way_of (marked cache line Read) line) ≡ true → bit_in Write (way_of cache line) ≡ true
 write_of_read_marked cache line = rw (way_of-marked_same cache line Read) (read_marked (way_of cache line))
+
+-- a line that may be read has the read bit as it gets it
+pub read_bit_marked : (cache : List (List Way)) (line : ℕ) → may_read (letter_of cache line) ≡ true →
+    read_bit (touched (marked cache line Read) line) line ≡ true
+read_bit_marked cache line may =
+    ap (bit_in Read) (way_of-touched (marked cache line Read) line line ∙ way_of-marked_same cache line Read)
+    ∙ by (way_of cache line) may
+  where
+    by : (way : Option Way) → may_read (letter_in way) ≡ true → bit_in Read (option_map (with_bit Read) way) ≡ true
+    by None may = absurd (cc)
+    by (Some way) may = refl
 
 -- on a line a hart's section has no bit more than before, and there is none where there was none
 pub record Fewer (line : ℕ) (old new : Hart) : Type 0 where

@@ -53,7 +53,7 @@ use Rattle.section_laws.proofs.Bounded.{configured_touched, place_cleared, place
 use Rattle.el_model.proofs.Laws.EachHart.{Each, each_but}
 use Rattle.el_model.proofs.Laws.Orders.{placed_own}
 use Rattle.section_laws.proofs.Laws.EachKept.{first_each, next_keeps}
-use Rattle.section_laws.proofs.Laws.Moves.{Moves, moved, taken_keeps}
+use Rattle.section_laws.proofs.Laws.Moves.{Moves, moved, moves_by_ends, taken_keeps}
 use Rattle.section_laws.proofs.Laws.Numbered.{next_count, order_keeps, raised_exists}
 use Rattle.section_laws.proofs.OnlyInside as inside
 use Rattle.section_laws.proofs.Laws.OrderedHarts.{AreBelow, below_kept}
@@ -92,16 +92,9 @@ lost_bounded config cache raised ordered some now = record {
 
 moves : (config : Config) (count : ℕ) (ordered : ℕ → Option Request) → HasSome config →
     Moves (Within config count ordered)
-moves config count ordered some = record {
-  posted_to = λ h hart mail now. now;
-  told = λ h hart told now. now;
-  preceded = λ h hart upstream now. now;
-  saw = λ h hart seen later now. now;
-  lost = λ h hart now exists. lost_bounded config hart.cache hart.raised (ordered h) some (now exists);
-  freed = λ h pc hart now exists. lost_bounded config hart.cache hart.raised (ordered h) some (now exists);
-  gave_up = λ h hart now. now;
-  tried = λ h hart more now. now;
-}
+moves config count ordered some = moves_by_ends (λ h hart other now. now)
+    (λ h hart now exists. lost_bounded config hart.cache hart.raised (ordered h) some (now exists))
+    (λ h pc hart now exists. lost_bounded config hart.cache hart.raised (ordered h) some (now exists))
 
 -- a step: one that takes a line raises a request where the line has room
 written_within : (set : List Way) → count_by (λ way. way.write) set ≤ count_by is_marked set

@@ -43,7 +43,7 @@ use Rattle.el_model.proofs.Laws.HartParts.{candidate_cache}
 use Rattle.section_laws.proofs.Laws.ArmedBits as bits
 use Rattle.section_laws.proofs.Laws.EachKept as kept
 use Rattle.section_laws.proofs.Laws.FreeLines.{NotWritten, free_line}
-use Rattle.section_laws.proofs.Laws.Moves.{Moves, moved, step_keeps, taken_keeps}
+use Rattle.section_laws.proofs.Laws.Moves.{Moves, moved, moves_by_ends, step_keeps, taken_keeps}
 use Rattle.section_laws.proofs.Laws.NewHarts.{each_new}
 use Rattle.section_laws.proofs.Laws.Numbered.{Once, first_once, next_once}
 use Rattle.section_laws.proofs.OnlyInside as inside
@@ -61,16 +61,9 @@ same_cache : (cache : List (List Way)) → IsSteady cache cache
 same_cache cache line = same_way (way_of cache line)
 
 steady_moves : (old : ModelState) → Moves (SteadySince old)
-steady_moves old = record {
-  posted_to = λ h hart mail now. now;
-  told = λ h hart told now. now;
-  preceded = λ h hart upstream now. now;
-  saw = λ h hart seen later now. now;
-  lost = λ h hart now line. way_twice _ (way_of hart.cache line) _ (now line) (steady_cleared hart.cache line);
-  freed = λ h pc hart now line. way_twice _ (way_of hart.cache line) _ (now line) (steady_cleared hart.cache line);
-  gave_up = λ h hart now. now;
-  tried = λ h hart more now. now;
-}
+steady_moves old = moves_by_ends (λ h hart other now. now)
+    (λ h hart now line. way_twice _ (way_of hart.cache line) _ (now line) (steady_cleared hart.cache line))
+    (λ h pc hart now line. way_twice _ (way_of hart.cache line) _ (now line) (steady_cleared hart.cache line))
 
 pub record Holds (state : ModelState) : Type 0 where
   pub once : Once state

@@ -9,24 +9,18 @@ use Rattle.el_model.specs.State.{Hart, ModelState, Section}
 use Rattle.section_laws.proofs.Laws.Bits.{Fewer, NoBitMore, fewer_conflicts, fewer_ended}
 use Rattle.section_laws.proofs.Laws.Bits.{no_more_cleared, no_more_marked, no_more_others, no_more_own, no_more_touched}
 use Rattle.section_laws.proofs.Laws.Bits.{no_more_twice}
-use Rattle.section_laws.proofs.Laws.Moves.{Moves}
+use Rattle.section_laws.proofs.Laws.Moves.{Moves, moves_by_ends}
 use Rattle.el_base.proofs.Laws.Cases.{clash}
 
 -- the moves of an event of the bus
 pub fewer_moves : (line : ℕ) (start : ℕ → Hart) → Moves (λ h hart. Fewer line (start h) hart)
-fewer_moves line start = record {
-  posted_to = λ h hart mail now. record { live = now.live; bits = now.bits };
-  told = λ h hart told now. record { live = now.live; bits = now.bits };
-  preceded = λ h hart upstream now. record { live = now.live; bits = now.bits };
-  saw = λ h hart seen later now. record { live = now.live; bits = now.bits };
-  lost = λ h hart now. fewer_ended line (start h) _ refl;
-  freed = λ h pc hart now. record {
-    live = now.live;
-    bits = λ live. no_more_twice _ (way_of hart.cache line) _ (now.bits live) (no_more_cleared hart.cache line);
-  };
-  gave_up = λ h hart now. record { live = now.live; bits = now.bits };
-  tried = λ h hart more now. record { live = now.live; bits = now.bits };
-}
+fewer_moves line start =
+    moves_by_ends (λ h hart other now. record { live = now.live; bits = now.bits })
+    (λ h hart now. fewer_ended line (start h) _ refl)
+    (λ h pc hart now. record {
+      live = now.live;
+      bits = λ live. no_more_twice _ (way_of hart.cache line) _ (now.bits live) (no_more_cleared hart.cache line);
+    })
 
 -- a head that it met not, it meets not after
 pub fewer_unmet : (head : Option Request) (h line : ℕ) (old new : Hart) →

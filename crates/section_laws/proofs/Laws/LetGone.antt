@@ -1,16 +1,15 @@
 -- no armed hart but its own has read the line of a head that is to write, so a served write takes no armed hart's line
-use Rattle.std.proofs.Common.{◌≡◌, ◌≢◌, ◌∙◌, ◌==◌, ◌&&◌, ◌||◌, ◌⊎◌, ℕ, Bool, true, false, not, List, [], ◌∷◌, Option}
-use Rattle.std.proofs.Common.{None, Some, is_some, option_map}
-use Rattle.std.proofs.Common.{refl, ap, sym, subst, inl, inr, if◌then◌else◌}
-use Rattle.std.proofs.lemmas.Bool.{cases_eq, false_from_ne_true}
-use Rattle.std.proofs.lemmas.Option.{same_Some}
+use Rattle.std.proofs.Common.{◌≡◌, ◌≢◌, ◌∙◌, ◌==◌, ◌&&◌, ◌⊎◌, ℕ, Bool, true, false, not, List}
+use Rattle.std.proofs.Common.{None, Some, is_some}
+use Rattle.std.proofs.Common.{refl, ap, sym, subst, inl, inr}
+use Rattle.std.proofs.Math.Bool.{and_comm}
+use Rattle.std.proofs.lemmas.Bool.{and_from, and_left, and_right, cases_eq, false_from_ne_true, or_from, or_left}
 use Rattle.bus_order.specs.Order.{IsOneEach, Request, first_of, removed}
 use Rattle.bus_order.proofs.Laws.Queues.{first_of_removed_other, hart_of_request_of, line_of_first_of}
-use Rattle.residency.specs.Cache.{bit_in, has_bit, is_resident, letter_in, letter_of, lettered, marked, read_bit}
+use Rattle.residency.specs.Cache.{bit_in, has_bit, is_resident, letter_of, marked, read_bit}
 use Rattle.residency.specs.Cache.{touched, way_of, write_bit}
-use Rattle.residency.specs.Residency.{Way, with_bit, with_letter}
-use Rattle.residency.proofs.Laws.CacheLemmas.{way_of-lettered_other, way_of-lettered_same, way_of-marked_same}
-use Rattle.residency.proofs.Laws.CacheLemmas.{way_of-touched, way_of-without_line_other}
+use Rattle.residency.specs.Residency.{Way}
+use Rattle.residency.proofs.Laws.CacheLemmas.{way_of-without_line_other}
 use Rattle.el_base.specs.Line.{line_number}
 use Rattle.el_base.specs.declared.config.Config.{Config}
 use Rattle.el_base.specs.declared.events.Event.{Event}
@@ -19,11 +18,11 @@ use Rattle.el_base.specs.declared.outcomes.Need.TheVariants.{Read, Write}
 use Rattle.el_base.proofs.Laws.Cases.{clash, none_some, some_none}
 use Rattle.el_base.proofs.Laws.Tests.{other_test}
 use Rattle.elf_image.specs.Program.{Program}
-use Rattle.el_model.specs.Armed.{freed_hart, is_freed, let_go, let_go_hart}
+use Rattle.el_model.specs.Armed.{is_freed, let_go_hart}
 use Rattle.el_model.specs.BusEvent.{IsBusEvent, Nothing, Places, Serves, Start, StartsWhere, Takes, as_met, faced_head}
 use Rattle.el_model.specs.BusEvent.{having_taken}
 use Rattle.el_model.specs.BusEvent.{order_after, started}
-use Rattle.el_model.specs.Conflicts.{is_asked, is_wanted_to_write, is_write, writes}
+use Rattle.el_model.specs.Conflicts.{is_wanted_to_write, is_write, writes}
 use Rattle.el_model.specs.Deed.{Arms, Begins, Buffers, Commits, Continues, Deed, DoesWhere, Elides, LetsGo, MayArm}
 use Rattle.el_model.specs.Deed.{Misses, Rests, RollsBack, Runs}
 use Rattle.el_model.specs.Deed.{Waits, hart_after}
@@ -36,27 +35,27 @@ use Rattle.el_model.specs.State.{Armed, Hart, ModelState, Turn, armed_of, begin,
 use Rattle.el_model.specs.State.{ordered_of}
 use Rattle.el_model.proofs.Laws.BusEvents.{by_event}
 use Rattle.el_model.proofs.Laws.Deeds.{step_deed}
-use Rattle.el_model.proofs.Laws.EachHart.{Each, each_become}
+use Rattle.el_model.proofs.Laws.EachHart.{Each}
 use Rattle.el_model.proofs.Laws.FromStart.{kept_after}
-use Rattle.el_model.proofs.Laws.Harts.{hart_of-past}
 use Rattle.el_model.proofs.Laws.Orders.{served_order}
-use Rattle.el_model.proofs.Laws.Tests.{by_hart, by_test}
+use Rattle.el_model.proofs.Laws.Tests.{by_hart}
 use Rattle.el_model.proofs.Laws.HartParts.{candidate_armed, claim_armed}
 use Rattle.moesi.specs.Letters.{may_read}
-use Rattle.moesi.specs.declared.letter.Letter.{Letter}
 use Rattle.rv_flat.specs.FlatState.{status_of, view_of}
 use Rattle.section_laws.specs.Laws.{ArmedHartsWaitForNothing, ArmedSectionsHaveOneReadBit, NoHartIsLiveAndArmed}
 use Rattle.section_laws.specs.Laws.{OrderedWritesMeetNoArmedHart}
 use Rattle.section_laws.specs.Waiting.{RunsWithNothing}
 use Rattle.section_laws.proofs.Laws.ArmedBits as bits
-use Rattle.section_laws.proofs.Laws.Bits.{NoBitMore, no_more_any, no_more_others, no_more_same}
+use Rattle.section_laws.proofs.Laws.Asked.{asked_first}
+use Rattle.section_laws.proofs.Laws.Bits.{NoBitMore, bit_lettered, no_more_any, no_more_others, no_more_same}
+use Rattle.section_laws.proofs.Laws.Bits.{read_bit_marked}
 use Rattle.section_laws.proofs.Laws.ArmedBits.{same_word}
 use Rattle.section_laws.proofs.Laws.Coherence as coherence
 use Rattle.section_laws.proofs.Laws.FreeLines.{head_is, not_blocked}
-use Rattle.section_laws.proofs.Laws.Moves.{Moves, faced_keeps, moved, step_keeps, taken_keeps}
+use Rattle.section_laws.proofs.Laws.Moves.{Moves, met_keeps, moved, moves_by_ends, none_freed, step_keeps, taken_keeps}
 use Rattle.section_laws.proofs.Laws.NewHarts.{each_new}
 use Rattle.section_laws.proofs.Laws.Placed.{StaysOrIsFaced, placed_first}
-use Rattle.section_laws.proofs.Laws.Waiting.{Rested, live_unarmed, none_freed, unarmed_ordered}
+use Rattle.section_laws.proofs.Laws.Waiting.{Rested, live_unarmed, unarmed_ordered}
 
 -- a head lets no hart go
 abbrev pub Unfreed : Request → ℕ → Hart → Type 0
@@ -66,16 +65,9 @@ abbrev pub AllLetGone : ModelState → Type 0
 AllLetGone state = (line : ℕ) (head : Request) → head_of state line ≡ Some head → Each (Unfreed head) state
 
 moves : (head : Request) → Moves (Unfreed head)
-moves head = record {
-  posted_to = λ h hart mail now. now;
-  told = λ h hart told now. now;
-  preceded = λ h hart upstream now. now;
-  saw = λ h hart seen later now. now;
-  lost = λ h hart now. none_freed head h (out_of_section hart) refl;
-  freed = λ h pc hart now. none_freed head h (let_go_hart pc hart) refl;
-  gave_up = λ h hart now. now;
-  tried = λ h hart more now. now;
-}
+moves head = moves_by_ends (λ h hart other now. now)
+    (λ h hart now. none_freed head h (out_of_section hart) refl)
+    (λ h pc hart now. none_freed head h (let_go_hart pc hart) refl)
 
 -- where no bit comes
 less : (x d new : Bool) → (new ≡ true → d ≡ true) → (x && d) ≡ false → (x && new) ≡ false
@@ -93,19 +85,11 @@ fewer_unfreed head h old new armed no_more now =
     (no_more_any (way_of old.cache head.line) (way_of new.cache head.line) no_more) now
 
 -- a head that is met
-gone_unfreed : (state : ModelState) (head : Request) → Each (Unfreed head) (let_go state head)
-unfolding let_go
-gone_unfreed state head =
-    each_become (Unfreed head) state (freed_hart state head)
-    (λ h.
-    by_test (Unfreed head h) (is_freed head h (hart_of state h))
-    (let_go_hart (view_of state.committed h).pc (hart_of state h)) (hart_of state h)
-    (λ freed. none_freed head h (let_go_hart (view_of state.committed h).pc (hart_of state h)) refl)
-    (λ unfreed. unfreed))
-    (λ h past. none_freed head h (hart_of state h) (ap (λ hart. hart.armed) (hart_of-past state h past)))
-
 met_unfreed : (state : ModelState) (head : Request) → Each (Unfreed head) (met state head)
-met_unfreed state head = faced_keeps (moves head) (let_go state head) head (gone_unfreed state head)
+met_unfreed state head =
+    met_keeps (moves head) state head
+    (λ h freed. none_freed head h (let_go_hart (view_of state.committed h).pc (hart_of state h)) refl)
+    (λ h unfreed. unfreed)
 
 -- a line's head after an event of the bus was met in it, or was the head before
 abbrev WasOrIsMet : ModelState → Start → ℕ → Request → Type 0
@@ -181,29 +165,6 @@ bus_gone {state} {by} {turn} done holds gone line head found =
         (done.becomes h)
 
 -- a hart arms only where no other hart waits to write
-unasked : (order : List Request) (h line : ℕ) (head : Request) → first_of order line ≡ Some head →
-    is_asked is_write order h line ≡ false → (is_write head && not (head.hart == h)) ≡ false
-unasked [] h line head is none = none_some is
-unasked (request ∷ order) h line head is none =
-    by (request.line == line) (unasked order h line head) is none
-  where
-    first : (other write rest : Bool) → ((other && write) || rest) ≡ false → (write && other) ≡ false
-    first true true rest none = absurd (cc)
-    first true false rest none = refl
-    first false true rest none = refl
-    first false false rest none = refl
-
-    by : (here : Bool) →
-        (first_of order line ≡ Some head → is_asked is_write order h line ≡ false →
-        (is_write head && not (head.hart == h)) ≡ false) →
-        (if here then Some request else first_of order line) ≡ Some head →
-        ((here && not (request.hart == h) && is_write request) || is_asked is_write order h line) ≡ false →
-        (is_write head && not (head.hart == h)) ≡ false
-    by true rest is none =
-        subst (λ r. (is_write r && not (r.hart == h)) ≡ false) (same_Some _ _ is)
-        (first (not (request.hart == h)) (is_write request) (is_asked is_write order h line) none)
-    by false rest is none = rest is none
-
 both_of : (a b : Bool) → (a && not b) ≡ true → (a ≡ true) × (b ≡ false)
 both_of true true is = absurd (cc)
 both_of true false is = (refl, refl)
@@ -226,23 +187,16 @@ arming_unfreed state h word head arms bare is = by (cases_eq head.line (line_num
         both_of (may_read (letter_of (cache_of state h) (line_number word)))
         (is_wanted_to_write state h (line_number word)) arms.may_open
 
-    gone : (a b c : Bool) → a ≡ false → (a && b && c) ≡ false
-    gone true b c none = absurd (cc)
-    gone false b c none = refl
-
-    without : (a b c : Bool) → b ≡ false → c ≡ false → (a && (b || c)) ≡ false
-    without true true c none other = absurd (cc)
-    without true false c none other = other
-    without false b c none other = refl
-
     by : (head.line ≡ line_number word) ⊎ (head.line ≡ line_number word → ⊥) → Unfreed head h new
     by (inl same) =
-        gone (is_write head && not (head.hart == h)) (is_some new.armed) (has_bit new.cache head.line)
-        (unasked state.order h head.line head is (ap (is_wanted_to_write state h) same ∙ open_line.1))
+        and_left (is_write head && not (head.hart == h) && is_some new.armed) _
+        (and_left (is_write head && not (head.hart == h)) _
+        (and_comm (is_write head) (not (head.hart == h))
+        ∙ asked_first is_write state.order h head.line head (ap (is_wanted_to_write state h) same ∙ open_line.1) is))
     by (inr other) =
-        without (is_write head && not (head.hart == h) && is_some new.armed) (read_bit new.cache head.line)
-        (write_bit new.cache head.line)
-        (reads.no_other.alone head.line other) (reads.no_other.unwritten head.line)
+        and_right (is_write head && not (head.hart == h) && is_some new.armed) (has_bit new.cache head.line)
+        (or_from (read_bit new.cache head.line) (write_bit new.cache head.line)
+        (reads.no_other.alone head.line other) (reads.no_other.unwritten head.line))
 
 deed_unfreed : (state : ModelState) (h : ℕ) (deed : Deed) (head : Request) → DoesWhere state h deed → Rested state →
     bits.Holds (hart_of state h) → head_of state head.line ≡ Some head → Unfreed head h (hart_of state h) →
@@ -290,26 +244,9 @@ abbrev pub ReadsItsLine : Hart → Type 0
 ReadsItsLine hart = (armed : Armed) → hart.armed ≡ Some armed → read_bit hart.cache (line_number armed.word) ≡ true
 
 reads_moves : Moves (λ h hart. ReadsItsLine hart)
-reads_moves = record {
-  posted_to = λ h hart mail now. now;
-  told = λ h hart told now. now;
-  preceded = λ h hart upstream now. now;
-  saw = λ h hart seen later now. now;
-  lost = λ h hart now armed is. none_some is;
-  freed = λ h pc hart now armed is. none_some is;
-  gave_up = λ h hart now. now;
-  tried = λ h hart more now. now;
-}
-
-marked_here : (cache : List (List Way)) (line : ℕ) → may_read (letter_of cache line) ≡ true →
-    read_bit (touched (marked cache line Read) line) line ≡ true
-marked_here cache line may =
-    ap (bit_in Read) (way_of-touched (marked cache line Read) line line ∙ way_of-marked_same cache line Read)
-    ∙ by (way_of cache line) may
-  where
-    by : (way : Option Way) → may_read (letter_in way) ≡ true → bit_in Read (option_map (with_bit Read) way) ≡ true
-    by None may = absurd (cc)
-    by (Some way) may = refl
+reads_moves = moves_by_ends (λ h hart other now. now)
+    (λ h hart now armed is. none_some is)
+    (λ h pc hart now armed is. none_some is)
 
 deed_reads : (state : ModelState) (h : ℕ) (deed : Deed) → DoesWhere state h deed → Rested state →
     ReadsItsLine (hart_of state h) → ReadsItsLine (hart_after state h deed (hart_of state h))
@@ -329,7 +266,7 @@ deed_reads state h (Arms word) arms rested now = λ armed is.
     both_of (may_read (letter_of (cache_of state h) line)) (is_wanted_to_write state h line) arms.may_open in
     subst (λ w. read_bit (touched (marked (cache_of state h) (line_number word) Read) (line_number word))
     (line_number w) ≡ true)
-    (same_word is) (marked_here (cache_of state h) (line_number word) may.0)
+    (same_word is) (read_bit_marked (cache_of state h) (line_number word) may.0)
 deed_reads state h (Elides armed swap) does rested now = λ other is. none_some is
 deed_reads state h (Continues before) continues rested now = λ armed is.
     subst (λ w. read_bit (cache_of state h) (line_number w) ≡ true) (same_word is)
@@ -337,41 +274,18 @@ deed_reads state h (Continues before) continues rested now = λ armed is.
 deed_reads state h (LetsGo armed) does rested now = λ other is. none_some is
 
 -- and a served request leaves it there
-lettered_read : (cache : List (List Way)) (line l : ℕ) → read_bit cache l ≡ true →
-    (letter : Letter) → read_bit (lettered cache line letter) l ≡ true
-lettered_read cache line l was letter = at (cases_eq l line)
-  where
-    same_bit : (way : Option Way) → bit_in Read (option_map (with_letter letter) way) ≡ bit_in Read way
-    same_bit None = refl
-    same_bit (Some way) = refl
-
-    at : (l ≡ line) ⊎ (l ≡ line → ⊥) → read_bit (lettered cache line letter) l ≡ true
-    at (inl same) =
-        ap (λ k. bit_in Read (way_of (lettered cache line letter) k)) same
-        ∙ ap (bit_in Read) (way_of-lettered_same cache line letter) ∙ same_bit (way_of cache line)
-        ∙ ap (read_bit cache) (sym same) ∙ was
-    at (inr other) = ap (bit_in Read) (way_of-lettered_other cache line l letter other) ∙ was
-
 others_read : (had : Bool) (need : Need) (cache : List (List Way)) (line l : ℕ) → (need ≡ Write → l ≢ line) →
     read_bit cache l ≡ true → read_bit (others_cache had need cache line) l ≡ true
 others_read had Write cache line l apart was =
     ap (bit_in Read) (way_of-without_line_other cache line l (apart refl)) ∙ was
 others_read true Read cache line l apart was = was
-others_read false Read cache line l apart was = lettered_read cache line l was _
+others_read false Read cache line l apart was = bit_lettered cache line l _ Read ∙ was
 
 read_has : (cache : List (List Way)) (line : ℕ) → read_bit cache line ≡ true → has_bit cache line ≡ true
-read_has cache line is = by (read_bit cache line) (write_bit cache line) is
-  where
-    by : (a b : Bool) → a ≡ true → (a || b) ≡ true
-    by true b is = refl
-    by false b is = absurd (cc)
+read_has cache line is = or_left (read_bit cache line) (write_bit cache line) is
 
 all_four : (a b c d : Bool) → a ≡ true → b ≡ true → c ≡ true → d ≡ true → (a && b && c && d) ≡ true
-all_four true true true true first second third fourth = refl
-all_four true true true false first second third fourth = absurd (cc)
-all_four true true false d first second third fourth = absurd (cc)
-all_four true false c d first second third fourth = absurd (cc)
-all_four false b c d first second third fourth = absurd (cc)
+all_four a b c d first second third fourth = and_from _ d (and_from _ c (and_from a b first second) third) fourth
 
 written_apart : (state : ModelState) (request : Request) (g : ℕ) (armed : Armed) → Each (Unfreed request) state →
     g ≢ request.hart → armed_of state g ≡ Some armed → ReadsItsLine (hart_of state g) → request.need ≡ Write →

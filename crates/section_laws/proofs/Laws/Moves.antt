@@ -1,26 +1,29 @@
 -- what an event of the bus does to each hart after its start, as a few moves: it is posted messages, is told of
 -- origins, has harts before it, sees stamps, loses its live section or has its armed one let go
 use Rattle.std.proofs.Common.{◌≡◌, ◌<◌, ◌≤◌, ℕ, Bool, true, false, ◌&&◌, not, List, [], ◌∷◌, Option, None, Some}
-use Rattle.std.proofs.Common.{is_some, length, refl}
+use Rattle.std.proofs.Common.{ap, is_some, length, refl}
 use Rattle.std.proofs.Common.{if◌then◌else◌, ◌==◌, ◌+◌, arith}
+use Rattle.std.proofs.lemmas.Bool.{false_from_ne_true}
 use Rattle.bus_order.specs.Order.{Request}
 use Rattle.residency.specs.Cache.{has_bit}
 use Rattle.defer_list.specs.HartSet.{included}
+use Rattle.el_base.proofs.Laws.Cases.{clash}
 use Rattle.el_base.specs.declared.config.Mode.{Mode}
 use Rattle.el_base.specs.declared.config.Mode.TheVariants.{Plain, Sle, Tlr}
-use Rattle.el_model.specs.Armed.{is_freed, let_go_hart}
+use Rattle.el_model.specs.Armed.{freed_hart, is_freed, let_go, let_go_hart}
 use Rattle.el_model.specs.Attempts.{seen_after}
 use Rattle.el_model.specs.BusEvent.{Becomes, IsAbsent, IsLetGo, IsSent, LosesIt, Sees, Start, Starts, having_taken}
 use Rattle.el_model.specs.BusEvent.{started}
 use Rattle.el_model.specs.Conflicts.{is_write}
 use Rattle.el_model.specs.Deed.{Deed, DoesWhere, hart_after}
 use Rattle.el_model.specs.Face.{Fate, LosesTo, Stays, Unmet, after_fate, deferring, faced, faced_hart, fate_of}
-use Rattle.el_model.specs.Face.{markers_for, winning_stamp}
+use Rattle.el_model.specs.Face.{markers_for, met, winning_stamp}
 use Rattle.el_model.specs.Next.{step_turn}
 use Rattle.el_model.specs.RollBack.{beaten, most_tries, out_of_section}
 use Rattle.el_model.specs.State.{Hart, ModelState, hart_of, post_all}
 use Rattle.el_model.proofs.Laws.Deeds.{step_deed}
-use Rattle.el_model.proofs.Laws.EachHart.{Each, each_after, each_with}
+use Rattle.el_model.proofs.Laws.EachHart.{Each, each_after, each_become, each_with}
+use Rattle.el_model.proofs.Laws.Harts.{hart_of-past}
 use Rattle.el_model.proofs.Laws.Tests.{by_test}
 use Rattle.mail.specs.Mailbox.{Message, Marker, Probe, posted}
 use Rattle.rv_flat.specs.FlatState.{view_of}
@@ -38,12 +41,39 @@ pub record Moves (P : ℕ → Hart → Type 0) : Type 0 where
   pub tried : (h : ℕ) (hart : Hart) → (hart.tries + 1 == most_tries) ≡ false → P h hart →
       P h (record hart { tries = hart.tries + 1 })
 
+-- a hart with another's mail, with what that was told and saw, and with its count of lost sections
+abbrev pub with_news : Hart → Hart → Hart
+with_news hart other = record hart {
+  mail = other.mail;
+  told = other.told;
+  upstream = other.upstream;
+  seen = other.seen;
+  tries = other.tries;
+  fallback = other.fallback;
+}
+
+-- what says nothing of all that is kept by the moves where the ends of a section keep it
+pub moves_by_ends : {P : ℕ → Hart → Type 0} →
+    ((h : ℕ) (hart other : Hart) → P h hart → P h (with_news hart other)) →
+    ((h : ℕ) (hart : Hart) → P h hart → P h (out_of_section hart)) →
+    ((h pc : ℕ) (hart : Hart) → P h hart → P h (let_go_hart pc hart)) → Moves P
+moves_by_ends beside lost freed = record {
+  posted_to = λ h hart mail. beside h hart (record hart { mail = mail });
+  told = λ h hart told. beside h hart (record hart { told = told });
+  preceded = λ h hart upstream. beside h hart (record hart { upstream = upstream });
+  saw = λ h hart seen later. beside h hart (record hart { seen = seen });
+  lost = lost;
+  freed = freed;
+  gave_up = λ h hart. beside h hart (record hart { tries = 0; fallback = true });
+  tried = λ h hart more. beside h hart (record hart { tries = hart.tries + 1 });
+}
+
 -- a hart that sees a stamp has seen no less than before
 pub seen_grows : (seen : ℕ) (stamp : Option Stamp) → seen ≤ seen_after seen stamp
 seen_grows seen None = omega arith
 seen_grows seen (Some stamp) = omega arith
 
--- a hart that is let go is armed
+-- a hart that is let go is armed, and one that is not armed is not let go
 pub freed_is_armed : (head : Request) (h : ℕ) (hart : Hart) → is_freed head h hart ≡ true → is_some hart.armed ≡ true
 freed_is_armed head h hart =
     by (is_write head) (not (head.hart == h)) (is_some hart.armed) (has_bit hart.cache head.line)
@@ -53,6 +83,11 @@ freed_is_armed head h hart =
     by true true false d freed = absurd (cc)
     by true false c d freed = absurd (cc)
     by false b c d freed = absurd (cc)
+
+pub none_freed : (head : Request) (h : ℕ) (hart : Hart) → hart.armed ≡ None → is_freed head h hart ≡ false
+none_freed head h hart none =
+    false_from_ne_true (is_freed head h hart)
+    (λ freed. clash (ap is_some none) (freed_is_armed head h hart freed))
 
 module _ {P : ℕ → Hart → Type 0} (moves : Moves P) where
   try_keeps : (h : ℕ) (hart : Hart) (last : Bool) → (hart.tries + 1 == most_tries) ≡ last → P h hart →
@@ -94,7 +129,8 @@ module _ {P : ℕ → Hart → Type 0} (moves : Moves P) where
   moved state by start h absent begun (LosesIt winner stamp hart loses now) =
       beaten_keeps state.config.mode stamp h hart (moved state by start h absent begun now)
 
-  -- what holds as a head is faced holds after it
+  -- a head is met: `Becomes` does not say that each hart that it frees is let go, so what rests on that goes by the
+  -- harts as they are let go or not, and what holds then holds after the head is faced
   posted_keep : (h : ℕ) (hart : Hart) (messages : List Message) → P h hart → P h (post_all hart messages)
   posted_keep h hart [] now = now
   posted_keep h hart (message ∷ messages) now =
@@ -114,7 +150,7 @@ module _ {P : ℕ → Hart → Type 0} (moves : Moves P) where
   fate_keeps state head (LosesTo winner) h hart now =
       beaten_keeps state.config.mode (winning_stamp state head.line winner) h hart now
 
-  pub faced_keeps : (state : ModelState) (head : Request) → Each P state → Each P (faced state head)
+  faced_keeps : (state : ModelState) (head : Request) → Each P state → Each P (faced state head)
   unfolding faced
   faced_keeps state head each =
       each_after P state (faced_hart state head)
@@ -124,6 +160,20 @@ module _ {P : ℕ → Hart → Type 0} (moves : Moves P) where
       (λ own. posted_keep h (hart_of state h) (markers_for state.config.mode state head) now)
       (λ other. fate_keeps state head (fate_of state head h (hart_of state h)) h (hart_of state h) now))
       each
+
+  pub met_keeps : (state : ModelState) (head : Request) →
+      ((h : ℕ) → is_freed head h (hart_of state h) ≡ true →
+      P h (let_go_hart (view_of state.committed h).pc (hart_of state h))) →
+      ((h : ℕ) → is_freed head h (hart_of state h) ≡ false → P h (hart_of state h)) → Each P (met state head)
+  unfolding let_go
+  met_keeps state head let_go_one kept_one =
+      faced_keeps (let_go state head) head
+      (each_become P state (freed_hart state head)
+      (λ h.
+      by_test (P h) (is_freed head h (hart_of state h)) (let_go_hart (view_of state.committed h).pc (hart_of state h))
+      (hart_of state h) (let_go_one h) (kept_one h))
+      (λ h past.
+      kept_one h (none_freed head h (hart_of state h) (ap (λ hart. hart.armed) (hart_of-past state h past)))))
 
 -- a step is a deed of its hart
 pub step_keeps : (P : ℕ → Hart → Type 0) (state : ModelState) (h : ℕ) →

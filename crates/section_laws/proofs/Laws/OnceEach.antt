@@ -25,6 +25,7 @@ use Rattle.moesi.specs.declared.letter.Letter.{Letter}
 use Rattle.section_laws.specs.Once.{AreOnce, IsOnce}
 use Rattle.section_laws.specs.Laws.{NoSetHasALineTwice}
 use Rattle.section_laws.proofs.Laws.EachKept.{EachKept, always_each}
+use Rattle.section_laws.proofs.Laws.Moves.{moves_by_ends}
 
 -- what is not in a set is not in it after
 absent_dropped : (set : List Way) (line l : ℕ) → way_in set l ≡ None → way_in (dropped set line) l ≡ None
@@ -217,16 +218,9 @@ deed_holds state h (LetsGo armed) hart now = once_each without_bits (λ way. ref
 kept : EachKept Holds
 kept = record {
   bus = record {
-    moves = record {
-      posted_to = λ h hart mail now. now;
-      told = λ h hart told now. now;
-      preceded = λ h hart upstream now. now;
-      saw = λ h hart seen later now. now;
-      lost = λ h hart now. once_each without_bits (λ way. refl) hart.cache now;
-      freed = λ h pc hart now. once_each without_bits (λ way. refl) hart.cache now;
-      gave_up = λ h hart now. now;
-      tried = λ h hart more now. now;
-    };
+    moves = moves_by_ends (λ h hart other now. now)
+        (λ h hart now. once_each without_bits (λ way. refl) hart.cache now)
+        (λ h pc hart now. once_each without_bits (λ way. refl) hart.cache now);
     unraised = λ h hart now. now;
     served = λ h state request hart now.
         claim_holds (is_some hart.section) request _

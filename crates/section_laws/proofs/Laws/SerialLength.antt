@@ -15,7 +15,7 @@ use Rattle.el_base.specs.declared.config.Config.{Config}
 use Rattle.el_base.specs.declared.events.Event.{Event}
 use Rattle.el_base.specs.declared.freed.Freed.{Freed}
 use Rattle.elf_image.specs.Program.{Program}
-use Rattle.el_model.specs.Armed.{freed_by, freed_count, freed_hart, is_freed, let_go, let_go_hart}
+use Rattle.el_model.specs.Armed.{freed_by, freed_count}
 use Rattle.el_model.specs.BusEvent.{Becomes, IsBusEvent, Nothing, Places, Serves, Start, Takes, as_met, faced_head}
 use Rattle.el_model.specs.BusEvent.{freed_in, having_taken}
 use Rattle.el_model.specs.BusEvent.{started}
@@ -30,14 +30,11 @@ use Rattle.el_model.specs.State.{Hart, ModelState, Section, Turn, begin, hart_of
 use Rattle.el_model.specs.Upcoming.{Swap}
 use Rattle.el_model.proofs.Laws.BusEvents.{by_event, met_becomes}
 use Rattle.el_model.proofs.Laws.Deeds.{step_deed}
-use Rattle.el_model.proofs.Laws.EachHart.{Each, each_become}
-use Rattle.el_model.proofs.Laws.Harts.{hart_of-past}
+use Rattle.el_model.proofs.Laws.EachHart.{Each}
 use Rattle.el_model.proofs.Laws.Tests.{by_test}
-use Rattle.rv_flat.specs.FlatState.{view_of}
 use Rattle.section_laws.specs.Sections.{SerialOrderIsNoLonger}
-use Rattle.section_laws.proofs.Laws.Moves.{Moves, faced_keeps, moved, taken_keeps}
+use Rattle.section_laws.proofs.Laws.Moves.{Moves, met_keeps, moved, moves_by_ends, taken_keeps}
 use Rattle.section_laws.proofs.Laws.Statuses.{unfreed_count}
-use Rattle.section_laws.proofs.Laws.Waiting.{none_freed}
 
 -- the instructions of live and armed sections
 abbrev run_in : Option Section → ℕ
@@ -141,16 +138,9 @@ abbrev no_effects : ℕ → ℕ
 no_effects h = 0
 
 moves : (effects : ℕ → ℕ) (old : ModelState) → Moves (Fewer effects old)
-moves effects old = record {
-  posted_to = λ h hart mail now. now;
-  told = λ h hart told now. now;
-  preceded = λ h hart upstream now. now;
-  saw = λ h hart seen later now. now;
-  lost = λ h hart now. omega (arith, now);
-  freed = λ h pc hart now. omega (arith, now);
-  gave_up = λ h hart now. now;
-  tried = λ h hart more now. now;
-}
+moves effects old = moves_by_ends (λ h hart other now. now)
+    (λ h hart now. omega (arith, now))
+    (λ h pc hart now. omega (arith, now))
 
 -- a freed hart keeps nothing, and no more of it takes effect than it has kept
 pub freed_at_most : (state : ModelState) (head : Request) (g : ℕ) →
@@ -170,36 +160,19 @@ freed_at_most state head g = by (nat_lt g 8) refl (nat_le (freed_count head g (h
         let cut = (freed_by state head).counts.each_fits g in
         omega (arith, many, cut)
 
-let_go_fewer : (old state : ModelState) (head : Request) → Each (Fewer no_effects old) state →
-    Each (Fewer (count_in (freed_by state head)) old) (let_go state head)
-unfolding let_go
-let_go_fewer old state head each =
-    each_become (Fewer (count_in (freed_by state head)) old) state (freed_hart state head)
-    (λ h.
-    by_test (Fewer (count_in (freed_by state head)) old h) (is_freed head h (hart_of state h))
-    (let_go_hart (view_of state.committed h).pc (hart_of state h)) (hart_of state h) (λ freed. kept_no_more h freed)
-    (λ unfreed. same h unfreed))
-    (λ h past. same h (none_freed head h (hart_of state h) (ap (λ hart. hart.armed) (hart_of-past state h past))))
-  where
-    same : (h : ℕ) → is_freed head h (hart_of state h) ≡ false →
-        Fewer (count_in (freed_by state head)) old h (hart_of state h)
-    same h unfreed =
-        let none = unfreed_count state head h unfreed in
-        let now = each h in
-        omega (arith, none, now)
-
-    kept_no_more : (h : ℕ) → is_freed head h (hart_of state h) ≡ true →
-        Fewer (count_in (freed_by state head)) old h (let_go_hart (view_of state.committed h).pc (hart_of state h))
-    kept_no_more h freed =
-        let most = freed_at_most state head h in
-        let is = ap (λ test. if test then armed_count (hart_of state h).armed else 0) freed in
-        let now = each h in
-        omega (arith, most, is, now)
-
 met_fewer : (old state : ModelState) (head : Request) → Each (Fewer no_effects old) state →
     Each (Fewer (count_in (freed_by state head)) old) (met state head)
 met_fewer old state head each =
-    faced_keeps (moves (count_in (freed_by state head)) old) (let_go state head) head (let_go_fewer old state head each)
+    met_keeps (moves (count_in (freed_by state head)) old) state head
+    (λ h freed.
+    let most = freed_at_most state head h in
+    let is = ap (λ test. if test then armed_count (hart_of state h).armed else 0) freed in
+    let now = each h in
+    omega (arith, most, is, now))
+    (λ h unfreed.
+    let none = unfreed_count state head h unfreed in
+    let now = each h in
+    omega (arith, none, now))
 
 -- the start of an event changes nothing of it, nor does the end of a live section add to it
 claim_fewer : (live : Bool) (request : Request) (hart : Hart) → kept_in (with_claim live request hart) ≡ kept_in hart

@@ -1,17 +1,17 @@
 -- a cache after a request was served: its shape, its room, and how many lines are written in it
 use Rattle.std.proofs.Common.{◌≡◌, ◌≢◌, ◌∙◌, ℕ, ◌+◌, ◌≤◌, ◌<◌, Bool, true, false, not, List, Option, Some, None}
-use Rattle.std.proofs.Common.{is_some, option_map, length, refl, ap}
+use Rattle.std.proofs.Common.{is_some, length, refl, ap}
 use Rattle.std.proofs.Common.{sym, inl, inr, ◌⊎◌, arith}
 use Rattle.std.proofs.lemmas.Bool.{cases_eq}
 use Rattle.std.specs.Option.{option_map_or}
 use Rattle.residency.specs.Cache.{bit_in, filled_with, is_resident, letter_in, letter_of, lettered, marked, room_of}
 use Rattle.residency.specs.Cache.{touched, way_of, without_line}
 use Rattle.residency.specs.Cache.{write_bit, write_bits_of}
-use Rattle.residency.specs.Residency.{Way, with_bit, with_letter}
+use Rattle.residency.specs.Residency.{Way, with_bit}
 use Rattle.residency.specs.WellFormed.{IsWellFormed}
 use Rattle.residency.proofs.Laws.AbsentWays.{lettered_absent}
-use Rattle.residency.proofs.Laws.CacheLemmas.{length-with_set, way_of-filled_with_same, way_of-lettered_other}
-use Rattle.residency.proofs.Laws.CacheLemmas.{way_of-lettered_same, way_of-touched}
+use Rattle.residency.proofs.Laws.CacheLemmas.{length-with_set, way_of-filled_with_same}
+use Rattle.residency.proofs.Laws.CacheLemmas.{way_of-touched}
 use Rattle.residency.proofs.Laws.CacheLemmas.{way_of-without_line_other}
 use Rattle.residency.proofs.Laws.MarkLemmas.{one_if, total-marked, write_bits_of-filled_with, write_bits_of-lettered}
 use Rattle.residency.proofs.Laws.MarkLemmas.{write_bits_of-touched}
@@ -25,6 +25,7 @@ use Rattle.el_model.proofs.Laws.Tests.{by_test}
 use Rattle.moesi.specs.Letters.{filled_of, on_read_of}
 use Rattle.moesi.specs.declared.letter.Letter.{Letter}
 use Rattle.moesi.specs.declared.letter.Letter.TheVariants.{M, O, E, S, I}
+use Rattle.section_laws.proofs.Laws.Bits.{bit_lettered}
 use Rattle.section_laws.proofs.Rooms.{room_lettered, room_without_line}
 
 -- the letter of a line that is there
@@ -87,25 +88,11 @@ pub record WritesNoMore (old new : List (List Way)) : Type 0 where
 writes_same : (cache : List (List Way)) → WritesNoMore cache cache
 writes_same cache = record { no_more = omega arith; unwritten = λ l is. inl is }
 
-letter_write : (letter : Letter) (way : Option Way) →
-    bit_in Write (option_map (with_letter letter) way) ≡ bit_in Write way
-letter_write letter None = refl
-letter_write letter (Some way) = refl
-
-write_bit_lettered : (cache : List (List Way)) (line l : ℕ) (letter : Letter) →
-    write_bit (lettered cache line letter) l ≡ write_bit cache l
-write_bit_lettered cache line l letter =
-    elim (cases_eq l line) [
-      | inl same ↦
-          rw same (ap (bit_in Write) (way_of-lettered_same cache line letter) ∙ letter_write letter (way_of cache line))
-      | inr other ↦ ap (bit_in Write) (way_of-lettered_other cache line l letter other)
-    ]
-
 writes_lettered : (ways : ℕ) (cache : List (List Way)) (line : ℕ) (letter : Letter) → IsWellFormed ways cache →
     WritesNoMore cache (lettered cache line letter)
 writes_lettered ways cache line letter well = record {
   no_more = let same = write_bits_of-lettered ways cache line letter well in omega (arith, same);
-  unwritten = λ l is. inl (sym (write_bit_lettered cache line l letter) ∙ is);
+  unwritten = λ l is. inl (sym (bit_lettered cache line l letter Write) ∙ is);
 }
 
 writes_without : (ways : ℕ) (cache : List (List Way)) (line : ℕ) → IsWellFormed ways cache →
@@ -166,7 +153,7 @@ own_write_bit : (ways : ℕ) (others : Bool) (need : Need) (cache : List (List W
     IsWellFormed ways cache → write_bit (own_copy ways others need cache line) line ≡ write_bit cache line
 own_write_bit ways others need cache line well =
     own_by (λ c. write_bit c line ≡ write_bit cache line) ways others need cache line
-    (λ here. write_bit_lettered cache line line _)
+    (λ here. bit_lettered cache line line _ Write)
     (λ absent. ap (bit_in Write) (way_of-filled_with_same ways cache line _ well.some_set)
     ∙ sym (none (way_of cache line) absent))
   where

@@ -12,10 +12,10 @@ use Rattle.el_base.proofs.Laws.FreedOrder.{no_one_in_order}
 use Rattle.el_base.specs.declared.config.Config.{Config}
 use Rattle.el_base.specs.declared.outcomes.Need.{Need}
 use Rattle.el_base.specs.declared.events.Event.{Event}
-use Rattle.el_base.proofs.Laws.Cases.{some_none}
+use Rattle.el_base.proofs.Laws.Cases.{some_none, true_false}
 use Rattle.el_base.proofs.Laws.Options.{none_from_both}
 use Rattle.elf_image.specs.Program.{Program}
-use Rattle.el_model.specs.Armed.{freed_hart, is_freed, let_go, let_go_hart}
+use Rattle.el_model.specs.Armed.{is_freed, let_go, let_go_hart}
 use Rattle.el_model.specs.BusEvent.{IsBusEvent, Nothing, Places, Serves, Start, StartsWhere, Takes, as_met, faced_head}
 use Rattle.el_model.specs.BusEvent.{having_taken}
 use Rattle.el_model.specs.BusEvent.{order_after, order_at, started}
@@ -27,23 +27,24 @@ use Rattle.el_model.specs.Next.{after, next, step_turn}
 use Rattle.el_model.specs.Order.{Alone, Behind, InFront, Place}
 use Rattle.el_model.specs.Plain.{after_candidate, candidate_of}
 use Rattle.el_model.specs.Serve.{bystander, served_hart, with_claim}
-use Rattle.el_model.specs.State.{Armed, Hart, ModelState, Section, Turn, armed_of, begin, each_hart, has_request}
-use Rattle.el_model.specs.State.{hart_of, new_hart, ordered_of}
+use Rattle.el_model.specs.State.{Armed, Hart, ModelState, Section, Turn, armed_of, begin, has_request}
+use Rattle.el_model.specs.State.{hart_of, is_live, new_hart, ordered_of}
 use Rattle.el_model.specs.State.{raised_of, section_of}
 use Rattle.el_model.specs.Upcoming.{Swap}
 use Rattle.el_model.proofs.Laws.BusEvents.{by_event, keeps_as_met, met_becomes}
 use Rattle.el_model.proofs.Laws.Deeds.{is_rolled, step_deed}
-use Rattle.el_model.proofs.Laws.EachHart.{Each, each_become, each_but}
+use Rattle.el_model.proofs.Laws.EachHart.{Each, each_but}
 use Rattle.el_model.proofs.Laws.FromStart.{kept_after}
 use Rattle.el_model.proofs.Laws.Harts.{hart_of-past}
 use Rattle.el_model.proofs.Laws.Orders.{order_as_met}
-use Rattle.el_model.proofs.Laws.Tests.{by_hart, by_test}
+use Rattle.el_model.proofs.Laws.Tests.{by_hart}
 use Rattle.el_model.proofs.Laws.HartParts.{candidate_armed, claim_armed}
 use Rattle.rv_alu.specs.declared.view.HartStatus.{HartStatus}
 use Rattle.rv_alu.specs.declared.view.HartStatus.TheVariants.{Running}
 use Rattle.rv_flat.specs.FlatState.{status_of, view_of}
+use Rattle.rv_flat.proofs.Laws.RunsAfter.{running_status}
 use Rattle.section_laws.specs.Waiting.{HasNothing, OnlyHolds, RunsWithNothing, WaitsForOne}
-use Rattle.section_laws.proofs.Laws.Moves.{Moves, faced_keeps, freed_is_armed, moved, taken_keeps}
+use Rattle.section_laws.proofs.Laws.Moves.{Moves, freed_is_armed, met_keeps, moved, moves_by_ends, taken_keeps}
 use Rattle.section_laws.proofs.Laws.NewHarts.{each_new}
 use Rattle.section_laws.proofs.Laws.Statuses.{alone_status, flat_status, let_go_status}
 
@@ -77,6 +78,13 @@ rested_in state settled h = (settled h).1
 
 pub settled_by : (state : ModelState) → Sound state → Rested state → Settled state
 settled_by state sound rested h = (sound h, rested h)
+
+-- a hart with a live section runs
+pub live_runs : (state : ModelState) (h : ℕ) → Sound state → is_live state h ≡ true →
+    status_of state.committed h ≡ Running
+live_runs state h sound live =
+    running_status (status_of state.committed h)
+    (λ stopped. true_false (sym live ∙ ap is_some ((sound h).stopped stopped).no_section))
 
 -- a hart that has nothing
 nothing : (h : ℕ) (status : HartStatus) (ordered : Option Request) (section : Option Section) (raised : Option Request)
@@ -154,28 +162,14 @@ unordered_rests armed status ordered section raised held (inr runs) =
     })
 
 moves : (status : ℕ → HartStatus) (ordered : ℕ → Option Request) → Moves (Standing status ordered)
-moves status ordered = record {
-  posted_to = λ h hart mail now. now;
-  told = λ h hart told now. now;
-  preceded = λ h hart upstream now. now;
-  saw = λ h hart seen later now. now;
-  lost = λ h hart now. (lost_waits h (status h) (ordered h) hart.section hart.raised hart.held_line now.0, inl refl);
-  freed = λ h pc hart now. (now.0, inl refl);
-  gave_up = λ h hart now. now;
-  tried = λ h hart more now. now;
-}
+moves status ordered = moves_by_ends (λ h hart other now. now)
+    (λ h hart now. (lost_waits h (status h) (ordered h) hart.section hart.raised hart.held_line now.0, inl refl))
+    (λ h pc hart now. (now.0, inl refl))
 
 -- a head is met: a hart that it lets go may stop, but had nothing
 not_armed : {A X : Type 0} (armed : Option A) → is_some armed ≡ true → armed ≡ None → X
 not_armed None is none = absurd (cc)
 not_armed (Some armed) is none = absurd (cc)
-
-pub none_freed : (head : Request) (h : ℕ) (hart : Hart) → hart.armed ≡ None → is_freed head h hart ≡ false
-none_freed head h hart none = by (is_freed head h hart) refl
-  where
-    by : (freed : Bool) → is_freed head h hart ≡ freed → freed ≡ false
-    by true is = not_armed hart.armed (freed_is_armed head h hart is) none
-    by false is = refl
 
 freed_settled : (state : ModelState) (head : Request) (h : ℕ) → Settled state →
     is_freed head h (hart_of state h) ≡ true → Standing (status_of (let_go state head).committed) (ordered_of state) h
@@ -192,25 +186,11 @@ unfreed_settled : (state : ModelState) (head : Request) (h : ℕ) → Settled st
     Standing (status_of (let_go state head).committed) (ordered_of state) h (hart_of state h)
 unfreed_settled state head h settled unfreed = rw (let_go_status state head h unfreed) (settled h)
 
-let_go_settled : (state : ModelState) (head : Request) → Settled state →
-    Each (Standing (status_of (let_go state head).committed) (ordered_of state))
-    (each_hart state (freed_hart state head))
-let_go_settled state head settled =
-    each_become (Standing (status_of (let_go state head).committed) (ordered_of state)) state (freed_hart state head)
-    (λ h.
-    by_test (Standing (status_of (let_go state head).committed) (ordered_of state) h)
-    (is_freed head h (hart_of state h))
-    (let_go_hart (view_of state.committed h).pc (hart_of state h)) (hart_of state h)
-    (λ freed. freed_settled state head h settled freed) (λ unfreed. unfreed_settled state head h settled unfreed))
-    (λ h past.
-    unfreed_settled state head h settled
-    (none_freed head h (hart_of state h) (ap (λ hart. hart.armed) (hart_of-past state h past))))
-
 met_settled : (state : ModelState) (head : Request) → Settled state → Settled (met state head)
 unfolding faced let_go
 met_settled state head settled =
-    faced_keeps (moves (status_of (let_go state head).committed) (ordered_of state)) (let_go state head) head
-    (let_go_settled state head settled)
+    met_keeps (moves (status_of (let_go state head).committed) (ordered_of state)) state head
+    (λ h freed. freed_settled state head h settled freed) (λ h unfreed. unfreed_settled state head h settled unfreed)
 
 -- a request is ordered
 placed_waits : (h : ℕ) (status : HartStatus) (ordered : Option Request) (section : Option Section) (held : Option ℕ)

@@ -3,6 +3,7 @@ use Rattle.std.proofs.Common.{◌≡◌, ◌∙◌, ℕ, suc, ◌%◌, ◌<◌, 
 use Rattle.std.proofs.Common.{subst}
 use Rattle.std.specs.Prelude.{slice_set}
 use Rattle.std.proofs.lemmas.List.{get_or-set_same, length-set}
+use Rattle.bus_agent.specs.Agent.{agent_of}
 use Rattle.residency.proofs.Laws.MarkLemmas.{has_marks-marked, has_marks-touched}
 use Rattle.residency.proofs.Laws.WellFormedLemmas.{well_formed-marked}
 use Rattle.residency.specs.Cache.{has_marks, is_resident, marked, touched}
@@ -44,7 +45,6 @@ use Rattle.section_view.proofs.Laws.Beginning.{begins}
 use Rattle.section_view.specs.KeptRun.{HoldsMarked, KeepsRun}
 use Rattle.section_view.specs.Laws.{begun}
 use Rattle.snoop.proofs.Laws.Living.{lives_unarmed}
-use Rattle.snoop.specs.Agent.{agent_of}
 use Rattle.snoop.specs.Returned.{returned}
 use Rattle.snoop.specs.Shows.{IsReady, BusState, Shows, Tells}
 use Rattle.write_hold.proofs.Laws.LookUps.{held_nothing}

@@ -4,6 +4,7 @@ use Rattle.std.proofs.Common.{sym, subst, arith}
 use Rattle.std.specs.Prelude.{◌==◌, IfSome, IsSome, not, option_map, slice_set}
 use Rattle.std.proofs.lemmas.Bool.Decides.{nat_tests}
 use Rattle.std.proofs.lemmas.List.{get_or-set_same, length-set}
+use Rattle.bus_agent.specs.Agent.{agent_of}
 use Rattle.residency.proofs.Laws.WellFormedLemmas.{well_formed-cleared}
 use Rattle.residency.proofs.Laws.Unmarked.{unmarked-cleared}
 use Rattle.residency.specs.Cache.{cleared, has_marks}
@@ -41,7 +42,6 @@ use Rattle.run_laws.proofs.Laws.Growing.{continued_run}
 use Rattle.run_laws.specs.PrivateRun.{KeepsAllButAView}
 use Rattle.rv_alu.specs.Execution.{perform, view_after}
 use Rattle.rv_alu.specs.declared.action.Action.{Action}
-use Rattle.rv_flat.proofs.Laws.Shapes.{keeps_alone}
 use Rattle.rv_flat.specs.FlatState.{no_hart, view_of}
 use Rattle.rv_flat.specs.Run.{alone}
 use Rattle.rv_flat.specs.Step.{action_of}
@@ -50,7 +50,6 @@ use Rattle.section_ctl.specs.State.{Reserved, SectionState}
 use Rattle.section_view.proofs.Laws.Arming.{armed_goes}
 use Rattle.section_view.specs.KeptRun.{KeepsArmed}
 use Rattle.snoop.proofs.Laws.Living.{lives_armed, lives_unarmed}
-use Rattle.snoop.specs.Agent.{agent_of}
 use Rattle.snoop.specs.Leaving.{LeavesNoted}
 use Rattle.snoop.specs.Returned.{returned}
 use Rattle.snoop.specs.Shows.{IsReady, BusState, Shows, Tells}
@@ -316,7 +315,7 @@ module _ (old : Parts) (hart : HartId) (armed : Armed) (from : ModelState)
     freed_shows : Shows bus (state_freed from g armed)
     freed_shows =
         shows_committed bus (with_hart from g (freed_of from g)) (alone from.committed g armed.count)
-        (record { base = keeps_rest.rest.base; bytes = keeps_rest.rest.bytes })
+        (record { base = keeps_rest.rest.shape.base; bytes = keeps_rest.rest.bytes })
         (noted_between (returned old.bus g cache) bus from _ g 0 (unmarked_of from g) (freed_of from g) unmarked_back
         noted refl refl refl
         (ap is_some follows.acts.no_section
@@ -355,7 +354,7 @@ module _ (old : Parts) (hart : HartId) (armed : Armed) (from : ModelState)
     let_go_in =
         let may = follows.acts.may in
         stepped_armed old _ hart from armed LetsGo (state_freed from g armed) follows (by_lets_go from g armed)
-        (record { shape = keeps_alone from.committed g armed.count; output = keeps_rest.rest.output })
+        (record { shape = keeps_rest.rest.shape; output = keeps_rest.rest.output })
         (record {
           config = refl;
           span = refl;
@@ -364,7 +363,7 @@ module _ (old : Parts) (hart : HartId) (armed : Armed) (from : ModelState)
           shows = freed_shows;
           told =
               told_committed old.pool bus from.committed (alone from.committed g armed.count)
-              (record { base = keeps_rest.rest.base; bytes = keeps_rest.rest.bytes })
+              (record { base = keeps_rest.rest.shape.base; bytes = keeps_rest.rest.bytes })
               (told_copies old.pool (returned old.bus g cache) bus _ noted.copies_stay
               (told_same old.pool old.bus g cache _ may.is_in.told (inside_caches old g from may) clears.keeps));
           beside = beside_same g old.pool;

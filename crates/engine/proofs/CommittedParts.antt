@@ -7,6 +7,7 @@ use Rattle.std.specs.Option.{option_map_or}
 use Rattle.std.proofs.lemmas.Bool.{eq-eqb}
 use Rattle.std.proofs.lemmas.Grind.{same_number_lists}
 use Rattle.std.proofs.lemmas.List.{get_or-set_other, get_or-set_same, length-drop, length-set, length-take-le}
+use Rattle.bus_agent.specs.Agent.{agent_of}
 use Rattle.bus_order.specs.Order.{request_of}
 use Rattle.residency.proofs.Laws.MarkLemmas.{has_marks-committed}
 use Rattle.residency.proofs.Laws.WellFormedLemmas.{well_formed-committed}
@@ -77,7 +78,6 @@ use Rattle.section_view.specs.KeptRun.{HoldsMarked, is_written, section_byte, se
 use Rattle.section_view.specs.Release.{HasEffect, IsLineFrom, IsReleaseAction, reserved_beside, view_unreserved_on}
 use Rattle.snoop.proofs.Laws.Living.{lives_unarmed}
 use Rattle.snoop.proofs.Laws.Returning.{ready_returned, shows_returned, unasked_returned}
-use Rattle.snoop.specs.Agent.{agent_of}
 use Rattle.snoop.specs.Asking.{HasNoRequest}
 use Rattle.snoop.specs.Returned.{returned}
 use Rattle.snoop.specs.Shows.{Holding, IsReady, BusState, Shows, Tells, lent_copies}

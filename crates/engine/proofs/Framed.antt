@@ -20,6 +20,7 @@ use Rattle.engine.specs.Parts.{IsInState, IsOfHart, KeepsSectionOf, Parts, hold_
 use Rattle.engine.specs.Private.{with_own}
 use Rattle.hart_state.specs.Own.{OwnState, new_own}
 use Rattle.line_pool.specs.Pooled.{Pooled}
+use Rattle.line_pool.proofs.Laws.{no_pool}
 use Rattle.residency.specs.Cache.{cleared}
 use Rattle.rv_flat.specs.FlatState.{no_hart}
 use Rattle.section_ctl.specs.Lent.{LeavesBeside}
@@ -31,10 +32,6 @@ use Rattle.snoop.specs.Shows.{BusState, Tells, TellsIn, lent_copies}
 use Rattle.write_hold.proofs.Laws.{lent-alike}
 use Rattle.write_hold.specs.Held.{Held}
 use Rattle.write_hold.specs.Slotted.{IsLent, Slotted, lent, lent_entry, slots_of}
-
--- a pool of no slots, which stands for any where no bytes count
-abbrev pub no_pool : Pooled
-no_pool = record { shares = []; lines = [] }
 
 -- what holds nothing holds nothing in any pool
 pub holds_none : (pool : Pooled) (hold : Slotted) → hold.entries ≡ [] → (lent pool hold).entries ≡ []

@@ -101,7 +101,7 @@ pub word_shown : (parts : Parts) (h : ℕ) (from : ModelState) (armed : Armed) �
 word_shown parts h from armed acts =
     let kept = keeps_private parts h from armed acts in
     let rest = (armed_runs_keep_all_but_a_view from.committed h (cache_of from h) armed kept.run).rest in
-    ap (λ base. loaded (byte_in base from.committed.bytes) armed.word 4) (sym rest.base)
+    ap (λ base. loaded (byte_in base from.committed.bytes) armed.word 4) (sym rest.shape.base)
     ∙ ap (λ bytes. loaded (byte_in (shown_armed from h armed).base bytes) armed.word 4) (sym rest.bytes)
 
 -- the line of its word is there

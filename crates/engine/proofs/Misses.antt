@@ -1,6 +1,7 @@
 -- the parts after a request was raised
 use Rattle.std.proofs.Common.{◌≡◌, ◌∙◌, ℕ, ◌<◌, None, length, refl, ap, subst, arith}
 use Rattle.std.proofs.lemmas.List.{set-set}
+use Rattle.bus_agent.specs.Agent.{agent_at}
 use Rattle.el_base.specs.declared.outcomes.Need.{Need}
 use Rattle.el_model.proofs.Laws.Harts.{hart_of-with_hart_same, with_hart_kept}
 use Rattle.el_model.proofs.Laws.Keeps.{keeps_with_hart}
@@ -11,7 +12,6 @@ use Rattle.engine.specs.Acting.{MayAct, cache_in, freed}
 use Rattle.engine.specs.Missing.{MayMiss}
 use Rattle.engine.specs.Parts.{IsInState, Parts, own_at}
 use Rattle.hart_state.specs.Own.{HasOwn}
-use Rattle.snoop.specs.Agent.{agent_at}
 use Rattle.snoop.specs.Shows.{BusState, Shows}
 
 -- the hart is there, in the state too

@@ -1,6 +1,7 @@
 -- what an action leaves that ran in the cache of its hart, from a state in which the hart acts outside of a section
 use Rattle.std.proofs.Common.{◌≡◌, ◌∙◌, ℕ, Bool, true, Option, Some, None, is_some, refl, ap, sym, subst}
 use Rattle.std.specs.Prelude.{◌&&◌, ◌==◌}
+use Rattle.bus_agent.specs.Agent.{agent_of}
 use Rattle.residency.specs.Cache.{is_resident}
 use Rattle.cache_sets.specs.Cached.{Cached, bytes_of, cached_byte}
 use Rattle.cache_sets.specs.Slotted.{Slotted, lent}
@@ -47,7 +48,6 @@ use Rattle.rv_flat.proofs.Laws.StepLaws.{keeps_shape, running}
 use Rattle.rv_flat.specs.FlatState.{room_of, span_of, view_of}
 use Rattle.rv_flat.specs.Step.{action_of, applied, execution_of, flat}
 use Rattle.snoop.proofs.Laws.Returning.{ready_returned, shows_returned, unasked_returned}
-use Rattle.snoop.specs.Agent.{agent_of}
 use Rattle.snoop.specs.Asking.{HasNoRequest}
 use Rattle.snoop.specs.Returned.{IsReturnedAs, returned, state_with}
 use Rattle.snoop.specs.Shows.{IsReady, Shows, Tells, lent_copies}

@@ -1,6 +1,7 @@
 -- what holds of the states that programs reach, by the laws of the definition
 use Rattle.std.proofs.Common.{◌≡◌, ◌≢◌, ◌∙◌, ℕ, ◌<◌, [], ◌∷◌, ◌++◌, true, length, Some, is_some, ap, sym, subst, arith}
 use Rattle.std.proofs.lemmas.List.{length-append}
+use Rattle.el_base.specs.LetGo.{freed_of_outcome}
 use Rattle.el_base.specs.declared.events.Event.{Event}
 use Rattle.el_model.proofs.Laws.Folds.{state_after-append}
 use Rattle.el_model.proofs.Laws.FromStart.{begin_config, kept_after, next_config}
@@ -20,7 +21,7 @@ use Rattle.step_laws.proofs.Laws.LettingGo.{bus_events_let_harts_go}
 use Rattle.step_laws.proofs.Laws.Losing.{only_live_sections_lose}
 use Rattle.step_laws.proofs.Laws.Survivors.{survivors_keep_what_they_show}
 use Rattle.step_laws.specs.Losing.{LosesItsSection}
-use Rattle.step_laws.specs.LettingGo.{LetsHartsGo, freed_of_outcome}
+use Rattle.step_laws.specs.LettingGo.{LetsHartsGo}
 use Rattle.step_laws.specs.Survivors.{IsNoStepOf, Survives}
 
 -- no event changes the configuration

@@ -3,6 +3,7 @@ use Rattle.std.proofs.Common.{◌≡◌, ◌∙◌, ℕ, ◌<◌, ◌≤◌, len
 use Rattle.std.specs.Prelude.{slice_set}
 use Rattle.std.below.core.specs.declared.int.u64.TheConstants.{MAX}
 use Rattle.std.proofs.lemmas.List.{get_or-set_same, length-set}
+use Rattle.bus_agent.specs.Agent.{agent_at, agent_of}
 use Rattle.residency.proofs.Laws.WellFormedLemmas.{well_formed-cleared}
 use Rattle.residency.proofs.Laws.Unmarked.{unmarked-cleared}
 use Rattle.residency.specs.Cache.{cleared, has_marks}
@@ -38,7 +39,6 @@ use Rattle.line_pool.specs.Others.{LeavesOthers}
 use Rattle.line_pool.specs.Pooled.{Pooled}
 use Rattle.rv_flat.specs.FlatState.{no_hart, view_of}
 use Rattle.snoop.proofs.Laws.Living.{lives_unarmed}
-use Rattle.snoop.specs.Agent.{agent_at, agent_of}
 use Rattle.snoop.specs.Returned.{returned}
 use Rattle.snoop.specs.Shows.{IsReady, BusState, Shows}
 use Rattle.step_laws.proofs.Laws.Clocks.{clocks_are_few}

@@ -4,6 +4,7 @@ use Rattle.std.proofs.Common.{Some, None, is_some, refl, ap, sym, subst, inl, in
 use Rattle.std.specs.Prelude.{◌==◌, not, slice_set}
 use Rattle.std.proofs.lemmas.Bool.{cases_eq}
 use Rattle.std.proofs.lemmas.List.{length-set}
+use Rattle.bus_agent.specs.Agent.{agent_noted, agent_of}
 use Rattle.bus_order.specs.Order.{request_of}
 use Rattle.residency.proofs.Laws.WellFormedLemmas.{well_formed-marked, well_formed-touched}
 use Rattle.residency.proofs.Laws.MarkLemmas.{no_marks}
@@ -43,7 +44,6 @@ use Rattle.rv_flat.specs.Laws.{KeepsShape}
 use Rattle.section_ctl.specs.Lent.{LeavesBeside}
 use Rattle.snoop.proofs.Laws.Living.{lives_armed}
 use Rattle.snoop.proofs.Laws.Returning.{ready_returned, shows_returned, unasked_returned}
-use Rattle.snoop.specs.Agent.{agent_noted, agent_of}
 use Rattle.snoop.specs.Asking.{HasNoRequest}
 use Rattle.snoop.specs.Leaving.{LeavesNoted}
 use Rattle.snoop.specs.LettingGo.{KeepsBytes}

@@ -1,13 +1,13 @@
 -- the harts after an event of the bus: some have lost their sections, and some were let go
 use Rattle.std.specs.Prelude.{ℕ, ◌≡◌, ◌≤◌, ◌<◌, ◌==◌, List, Option, None, Some, length, if◌then◌else◌}
 use Rattle.el_base.specs.Freed.{count_in}
+use Rattle.el_base.specs.LetGo.{freed_of_outcome}
 use Rattle.el_base.specs.Winners.{winner_over}
 use Rattle.el_base.specs.declared.config.Mode.{Mode}
 use Rattle.el_base.specs.declared.outcomes.Outcome.{Outcome}
 use Rattle.engine.specs.Parts.{own_at}
 use Rattle.hart_state.specs.Deeds.{let_go_own, lost_own}
 use Rattle.hart_state.specs.Own.{OwnState}
-use Rattle.step_laws.specs.LettingGo.{freed_of_outcome}
 
 -- an outcome names no hart that has lost its section, and none that was let go
 pub record TellsOfNobody (outcome : Outcome) : Type 0 where

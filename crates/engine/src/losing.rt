@@ -3,6 +3,7 @@
 ghost use Rattle.std.specs.Prelude.{◌≡◌, ◌≤◌, ◌<◌, ℕ, IsSome, None, Option, Some, length, true};
 ghost use Rattle.std.specs.Option.{option_map};
 ghost use Rattle.el_base.specs.Freed.{count_in};
+ghost use Rattle.el_base.specs.LetGo.{freed_of_outcome};
 ghost use Rattle.el_base.specs.Losers.{beaten_by};
 ghost use Rattle.el_base.specs.Winners.{winner_over};
 ghost use Rattle.engine.specs.Lent.{LeavesKept, LendsHolds};
@@ -10,7 +11,6 @@ ghost use Rattle.engine.specs.Parts.{own_at};
 ghost use Rattle.engine.specs.Restored.{AreRestored, freed_own, own_after};
 ghost use Rattle.engine.specs.Restored.{TellsOfNobody};
 ghost use Rattle.line_pool.specs.Others.{LeavesOthers};
-ghost use Rattle.step_laws.specs.LettingGo.{freed_of_outcome};
 ghost use Rattle.write_hold.specs.Slotted.{IsLent};
 
 use el_base::{Freed, HartId, Losers, Mode, Outcome};
@@ -74,22 +74,12 @@ fn restore_all(
     }
 }
 
-/// The harts that an event of another hart let go, by its outcome.
-fn freed_by(outcome: Outcome) -> Freed
-    ensures { result ≡ freed_of_outcome outcome }
-{
-    match outcome {
-        Outcome::Ordered { freed, .. } | Outcome::Served { freed, .. } => freed,
-        _ => Freed::none(),
-    }
-}
-
 /// Whether an outcome names no hart that has lost its section, and none that was let go.
 #[tactic(auto, using(el_base::proofs::Laws::MadeLosers::none_in_no_one))]
 fn tells_of_nobody(outcome: Outcome) -> bool
     ensures { result ≡ true → TellsOfNobody outcome }
 {
-    outcome.losers() == Losers::none() && freed_by(outcome) == Freed::none()
+    outcome.losers() == Losers::none() && outcome.freed() == Freed::none()
 }
 
 /// What an event of the bus leaves to the harts, by its outcome: a hart that it names among its losers loses its section,
@@ -108,6 +98,6 @@ pub(crate) fn restore_by(pool: &mut Pool, harts: &mut Vec<HartState>, mode: Mode
     ensures kept { LeavesKept (winner_over outcome) pool.old pool.new }
 {
     if !tells_of_nobody(outcome) {
-        restore_all(pool, harts, mode, outcome.losers(), freed_by(outcome));
+        restore_all(pool, harts, mode, outcome.losers(), outcome.freed());
     }
 }

@@ -6,6 +6,7 @@ use crate::names::Names;
 use crate::phrases::{MessageText, RequestText};
 use crate::words::{Counted, first_byte, instructions, letter_word};
 use bitflags::Flags;
+use bus_agent::Agent;
 use bus_order::Order;
 use cache_sets::{Bits, Sets};
 use el_base::{HartId, LINE_BYTES, LineAddr, MAX_HARTS, NoMemory};
@@ -15,7 +16,6 @@ use lab::Machine;
 use lab_names::Named;
 use rv_alu::{HartStatus, HartView};
 use section_ctl::{Armed, Live};
-use snoop::Agent;
 
 /// Puts the state of a machine behind a text: of each hart where it stands, its section, what it has learnt and what it has
 /// at the bus; the requests in their order; and a grid of the lines that some cache has, with the letters and bits of each

@@ -2,6 +2,7 @@
 use Rattle.std.proofs.Common.{◌≡◌, ◌∙◌, ℕ, ◌+◌, ◌≤◌, Bool, true, false, not, ◌&&◌, ◌==◌, List, [], ◌∷◌, length, Option}
 use Rattle.std.proofs.Common.{is_some}
 use Rattle.std.proofs.Common.{refl, ap, sym, if◌then◌else◌}
+use Rattle.bus_agent.specs.Agent.{agent_of, agent_seeing}
 use Rattle.bus_order.specs.Order.{Request}
 use Rattle.residency.specs.Cache.{cleared}
 use Rattle.el_base.specs.declared.config.Mode.{Mode}
@@ -17,7 +18,6 @@ use Rattle.el_model.proofs.Laws.Harts.{hart_of-past}
 use Rattle.el_model.proofs.Laws.HartParts.{beaten_armed}
 use Rattle.mail.specs.Mailbox.{Message, posted}
 use Rattle.snoop.proofs.Laws.Living.{TellsSection, live_unarmed, tells_cleared, tells_yet}
-use Rattle.snoop.specs.Agent.{agent_of, agent_seeing}
 use Rattle.snoop.specs.Changing.{cleared_if}
 use Rattle.snoop.specs.Settled.{in_removal, loses, stamp_seen}
 use Rattle.stamp.specs.Stamps.{Stamp}

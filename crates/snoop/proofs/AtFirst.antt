@@ -3,6 +3,7 @@ use Rattle.std.proofs.Common.{◌≡◌, ◌∙◌, ◌<◌, ◌≤◌, ℕ, zer
 use Rattle.std.proofs.Common.{Some, refl, ap, sym, subst, arith}
 use Rattle.std.specs.Prelude.{slice_index_or}
 use Rattle.std.proofs.lemmas.List.{length-replicate}
+use Rattle.bus_agent.specs.Agent.{agent_at, agent_of, new_agent}
 use Rattle.bus_order.specs.Order.{Request, request_of}
 use Rattle.residency.specs.Cache.{has_marks}
 use Rattle.cache_sets.specs.Cached.{empty_cached}
@@ -22,7 +23,6 @@ use Rattle.elf_image.specs.Program.{Program}
 use Rattle.rv_flat.specs.FlatState.{start}
 use Rattle.snoop.proofs.Lent.{no_pool, residency_at, ways_at}
 use Rattle.snoop.proofs.Laws.Living.{TellsSection}
-use Rattle.snoop.specs.Agent.{agent_at, agent_of, new_agent}
 use Rattle.snoop.specs.Shows.{IsReady, BusState, Shows}
 
 -- a hart of those that are new, and what has its number elsewhere

@@ -2,14 +2,14 @@
 use Rattle.std.proofs.Common.{◌≡◌, ◌≢◌, ◌∙◌, ℕ, ◌+◌, ◌<◌, ◌≤◌, Bool, true, false, length, refl, ap, sym, subst, arith}
 use Rattle.std.proofs.Common.{inl, inr}
 use Rattle.std.proofs.lemmas.Bool.{cases_eq, cases_lt}
+use Rattle.bus_agent.proofs.Laws.Agents.{agent_other, agent_same, count_with_agent}
+use Rattle.bus_agent.specs.Agent.{Agent, agent_at}
 use Rattle.bus_order.specs.Order.{IsOneEach}
 use Rattle.cache_sets.specs.Slotted.{Slotted}
 use Rattle.coherence.specs.Lent.{slotted_at}
 use Rattle.snoop.proofs.Lent.{cleared_room, cleared_unmarked, cleared_well_formed, clears_one, lies_in_yet, stays_same}
 use Rattle.snoop.proofs.Lent.{stays_twice}
 use Rattle.snoop.proofs.Ready.{ready_after}
-use Rattle.snoop.proofs.Showing.{agent_other, agent_same, count_with_agent}
-use Rattle.snoop.specs.Agent.{Agent, agent_at}
 use Rattle.snoop.specs.Changing.{AreHartsChanged, ClearedIf, ClearsIf, IsHartChanged, StaysLent, cleared_if}
 use Rattle.snoop.specs.Shows.{Holding, IsReady, BusState, has_room_in}
 

@@ -6,6 +6,8 @@ use Rattle.std.specs.List.{filter}
 use Rattle.std.specs.Prelude.{slice_index_or, slice_set}
 use Rattle.std.proofs.lemmas.Bool.{cases_lt}
 use Rattle.std.proofs.lemmas.List.{set-get_or, set-set, set_past}
+use Rattle.bus_agent.proofs.Laws.Agents.{agent_kept, count_with_agent}
+use Rattle.bus_agent.specs.Agent.{Agent, agent_at, agent_behind, agent_posted, agent_taken, with_agent}
 use Rattle.bus_order.specs.Order.{Request, request_of}
 use Rattle.defer_list.specs.HartSet.{included}
 use Rattle.el_base.specs.declared.outcomes.Outcome.TheVariants.{Delivered, Idle}
@@ -14,12 +16,10 @@ use Rattle.el_model.specs.Deliver.{told_on}
 use Rattle.el_model.specs.State.{Hart, ModelState, count_up, hart_of, new_hart, post_all, with_hart}
 use Rattle.el_model.proofs.Laws.Harts.{hart_of-with_hart_same}
 use Rattle.mail.specs.Mailbox.{Message, Probe, oldest, posted, without_oldest}
-use Rattle.snoop.specs.Agent.{Agent, agent_at, agent_behind, agent_posted, agent_taken, with_agent}
 use Rattle.snoop.specs.Delivering.{marker_taken, numbers_from, passed_on, passes, posts_sent, probe_sent, probes_sent}
 use Rattle.snoop.specs.Shows.{IsReady, BusState, Shows}
 use Rattle.snoop.proofs.Ready.{ready_agent}
-use Rattle.snoop.proofs.Sent.{agent_kept}
-use Rattle.snoop.proofs.Showing.{count_with_agent, shows_agent}
+use Rattle.snoop.proofs.Showing.{shows_agent}
 
 -- the numbers of all harts
 all_numbers : (from : ℕ) (harts : List Hart) → numbers_from from (length harts) ≡ count_up from harts

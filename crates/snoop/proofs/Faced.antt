@@ -1,6 +1,7 @@
 -- a face, as the bus shows it and as it is ready after it
 use Rattle.std.proofs.Common.{◌≡◌, ◌≢◌, ◌∙◌, ℕ, ◌<◌, cond, List, length, refl, ap, sym, subst, arith, inl, inr}
 use Rattle.std.proofs.lemmas.Bool.{cases_eq}
+use Rattle.bus_agent.specs.Agent.{agent_at, agent_of}
 use Rattle.bus_order.specs.Order.{Request}
 use Rattle.coherence.specs.Lent.{slotted_at}
 use Rattle.el_base.specs.Losers.{losers_of}
@@ -13,7 +14,6 @@ use Rattle.snoop.proofs.Changes.{any_ways, changed_ready}
 use Rattle.snoop.proofs.Laws.Living.{TellsSection, tells, tells_yet}
 use Rattle.snoop.proofs.Sent.{head_posted, others_posted, posted_count, sent_ready}
 use Rattle.snoop.proofs.Showing.{ShowsEach, lies_yet, shows_each}
-use Rattle.snoop.specs.Agent.{agent_at, agent_of}
 use Rattle.snoop.specs.Changing.{cleared_if}
 use Rattle.snoop.specs.Fates.{fate_in}
 use Rattle.snoop.specs.Settled.{AreSettledBelow, loses, sent_in, settled_agent}

@@ -5,6 +5,7 @@ use Rattle.std.specs.Prelude.{slice_index_or}
 use Rattle.std.proofs.Math.ListN.{drop_of_length-le, get_or-append}
 use Rattle.std.proofs.Math.Seq.{drop-cons, get_or-append_seam}
 use Rattle.std.proofs.lemmas.Bool.{cases_eq, cases_lt}
+use Rattle.bus_agent.specs.Agent.{Agent, agent_at, agent_of, new_agent}
 use Rattle.el_base.proofs.Laws.Cases.{true_false}
 use Rattle.el_base.proofs.Laws.Tests.{false_between}
 use Rattle.el_model.specs.Conflicts.{conflicts, least_such, meets_bit, told_winner, wins_over}
@@ -13,7 +14,6 @@ use Rattle.el_model.specs.State.{Hart, ModelState, count_up, hart_of}
 use Rattle.snoop.proofs.AfterFate.{past_unmet}
 use Rattle.snoop.proofs.LosersBelow.{past_fates}
 use Rattle.snoop.proofs.Laws.Living.{lives_shown}
-use Rattle.snoop.specs.Agent.{Agent, agent_at, agent_of, new_agent}
 use Rattle.el_base.specs.declared.config.Mode.TheVariants.{Plain}
 use Rattle.el_model.specs.Face.{fate_at}
 use Rattle.policy.specs.Winners.{wins_of}

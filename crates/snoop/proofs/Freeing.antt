@@ -2,13 +2,13 @@
 use Rattle.std.proofs.Common.{◌≡◌, ◌≢◌, ◌∙◌, ℕ, ◌+◌, ◌<◌, ◌≤◌, ◌==◌, Bool, true, false, cond, length, refl, ap, sym}
 use Rattle.std.proofs.Common.{arith, inl, inr, if◌then◌else◌}
 use Rattle.std.proofs.lemmas.Bool.{cases_eq, cases_lt}
+use Rattle.bus_agent.proofs.Laws.Agents.{agent_past}
+use Rattle.bus_agent.specs.Agent.{agent_at, new_agent}
 use Rattle.bus_order.specs.Order.{Request}
 use Rattle.el_base.specs.Freed.{count_in}
 use Rattle.el_base.specs.declared.freed.Freed.{Freed}
 use Rattle.el_base.proofs.Laws.Tests.{other_test, own_test}
 use Rattle.snoop.proofs.Changes.{no_hart_changed, one_hart_changed}
-use Rattle.snoop.proofs.Showing.{agent_past}
-use Rattle.snoop.specs.Agent.{agent_at, new_agent}
 use Rattle.snoop.specs.LettingGo.{AreLetGo, IsLetGo, agent_let_go, freed_at, frees, goes}
 use Rattle.snoop.specs.Shows.{BusState}
 

@@ -6,6 +6,8 @@ use Rattle.std.proofs.Math.Bool.{and-false, and-true}
 use Rattle.std.proofs.lemmas.Bool.{cases_eq, cases_lt}
 use Rattle.std.proofs.lemmas.List.{length-set}
 use Rattle.std.specs.Prelude.{IfSome}
+use Rattle.bus_agent.proofs.Laws.Agents.{agent_other, agent_past, agent_same, count_with_agent, few_armed_yet}
+use Rattle.bus_agent.specs.Agent.{Agent, agent_at, agent_heard, agent_of, agent_posted, with_agent}
 use Rattle.bus_order.specs.Order.{IsOneEach, Request, request_of}
 use Rattle.residency.specs.Cache.{cleared}
 use Rattle.residency.specs.WellFormed.{IsWellFormed}
@@ -26,15 +28,14 @@ use Rattle.el_model.proofs.Laws.Harts.{hart_of-with_hart_other, hart_of-with_har
 use Rattle.el_model.proofs.Laws.Tests.{by_test}
 use Rattle.el_model.proofs.Laws.Conflicts.{loser_lives}
 use Rattle.mail.specs.Mailbox.{Probe, posted}
-use Rattle.snoop.specs.Agent.{Agent, agent_at, agent_of, agent_posted, with_agent}
-use Rattle.snoop.specs.Delivering.{Forwards, IsForwarded, IsLostTo, agent_heard, asks_on}
+use Rattle.snoop.specs.Delivering.{Forwards, IsForwarded, IsLostTo, asks_on}
 use Rattle.snoop.specs.Settled.{in_removal}
 use Rattle.snoop.specs.Shows.{Holding, IsReady, IsUnmarked, BusState, LiesIn, Shows, has_room_in}
 use Rattle.snoop.proofs.AfterFate.{beaten_agent, beaten_cache, beaten_tells, beaten_upstream}
 use Rattle.snoop.proofs.Laws.Living.{TellsSection, live_unarmed, tells, tells_yet}
 use Rattle.snoop.proofs.Lent.{ClearsOne, clears_one, lies_in_yet, one_room, one_unmarked, one_well_formed}
-use Rattle.snoop.proofs.Ready.{asks_agent, few_armed_yet, ready_after}
-use Rattle.snoop.proofs.Showing.{agent_other, agent_past, agent_same, count_with_agent, lies_yet, shows_agent}
+use Rattle.snoop.proofs.Ready.{asks_agent, ready_after}
+use Rattle.snoop.proofs.Showing.{lies_yet, shows_agent}
 use Rattle.snoop.proofs.Showing.{shows_each}
 
 -- a hart that does not lose

@@ -14,12 +14,9 @@ use Rattle.coherence.specs.Served.{StaysCoherent, has_room}
 use Rattle.coherence.proofs.Laws.RoomLaws.{room_after_clear}
 use Rattle.coherence.proofs.Laws.Offered.{length-lent, lent_at}
 use Rattle.line_pool.specs.Pooled.{Pooled}
+pub use Rattle.line_pool.proofs.Laws.{no_pool}
 use Rattle.snoop.specs.Changing.{ClearedIf, IsClearedAt, StaysLent}
 use Rattle.snoop.specs.Shows.{Holding, IsUnmarked, LiesIn, has_room_in, lent_copies}
-
--- a pool of nothing
-abbrev pub no_pool : Pooled
-no_pool = record { shares = []; lines = [] }
 
 pub ways_at : (pool : Pooled) (caches : List Slotted) (h : ℕ) →
     (cache_at (lent_all pool caches) h).ways ≡ (slotted_at caches h).ways

@@ -2,6 +2,7 @@
 use Rattle.std.proofs.Common.{◌≡◌, ◌∙◌, ℕ, ◌≤◌, ◌==◌, ◌&&◌, Bool, true, false, not, length, is_some, refl, ap, sym}
 use Rattle.std.proofs.Common.{subst, arith, inl, inr, if◌then◌else◌}
 use Rattle.std.proofs.lemmas.Bool.{cases_lt}
+use Rattle.bus_agent.specs.Agent.{Agent, agent_at, agent_of}
 use Rattle.bus_order.specs.Order.{Request}
 use Rattle.residency.specs.Cache.{has_bit}
 use Rattle.coherence.specs.Lent.{slotted_at}
@@ -24,7 +25,6 @@ use Rattle.rv_flat.specs.FlatState.{FlatState, view_of}
 use Rattle.snoop.proofs.Changes.{any_ways, changed_ready}
 use Rattle.snoop.proofs.Laws.Living.{TellsSection, armed_lifeless, tells, tells_cleared}
 use Rattle.snoop.proofs.Showing.{ShowsEach, lies_yet, shows_each}
-use Rattle.snoop.specs.Agent.{Agent, agent_at, agent_of}
 use Rattle.snoop.specs.Changing.{cleared_if}
 use Rattle.snoop.specs.LettingGo.{AreLetGo, KeepsBytes, agent_let_go, freed_at, frees, goes, with_committed}
 use Rattle.snoop.specs.Shows.{IsReady, BusState, Shows}

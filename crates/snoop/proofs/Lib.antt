@@ -2,7 +2,6 @@ pub mod Laws
 mod Conflicts
 mod Showing
 mod Lent
-mod EachAgent
 mod Ready
 mod Facing
 mod Changes
@@ -26,7 +25,6 @@ mod PlacedMet
 mod AtFirst
 mod Raising
 mod Delivers
-mod Forwarding
 mod Hears
 mod Standing
 mod Ending

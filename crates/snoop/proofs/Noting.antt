@@ -1,9 +1,9 @@
 -- what the bus shows after a hart was noted as armed, or as not
 use Rattle.std.proofs.Common.{◌≡◌, ◌∙◌, ◌==◌, ℕ, not, ap, sym}
+use Rattle.bus_agent.specs.Agent.{agent_at, agent_noted, with_agent}
 use Rattle.el_model.specs.Plain.{armed_count}
 use Rattle.el_model.specs.State.{Hart, ModelState, with_hart}
 use Rattle.snoop.proofs.Showing.{shows_told}
-use Rattle.snoop.specs.Agent.{agent_at, agent_noted, with_agent}
 use Rattle.snoop.specs.LettingGo.{IsNotedAs}
 use Rattle.snoop.specs.Shows.{BusState, Shows, lives}
 

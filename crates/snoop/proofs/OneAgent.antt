@@ -1,9 +1,9 @@
 -- a call by which the agent of one hart alone changes, and asks for what it asked
 use Rattle.std.proofs.Common.{◌≡◌, ◌≤◌, ◌∙◌, ℕ, refl, subst, sym}
+use Rattle.bus_agent.specs.Agent.{Agent, agent_at, agent_of, with_agent}
 use Rattle.el_model.specs.State.{Hart, ModelState, armed_of, cache_of, section_of, with_hart}
 use Rattle.snoop.proofs.Ready.{ready_agent}
 use Rattle.snoop.proofs.Showing.{shows_agent}
-use Rattle.snoop.specs.Agent.{Agent, agent_at, agent_of, with_agent}
 use Rattle.snoop.specs.Leaving.{LeavesCopies}
 use Rattle.snoop.specs.Shows.{BusState, IsReady, Shows}
 

@@ -1,6 +1,8 @@
 -- a raised request takes its place in the order
 use Rattle.std.proofs.Common.{◌≡◌, ◌≢◌, ◌∙◌, ℕ, List, length, Option, Some, None, refl, ap, sym, arith, inl, inr}
 use Rattle.std.proofs.lemmas.Bool.{cases_eq, cases_lt}
+use Rattle.bus_agent.proofs.Laws.Agents.{agent_other, agent_past, agent_same, count_with_agent, few_armed_yet}
+use Rattle.bus_agent.specs.Agent.{Agent, agent_at, agent_posted, with_agent}
 use Rattle.bus_order.proofs.Laws.LookUps.{request_of_appended_other, request_of_appended_own}
 use Rattle.bus_order.proofs.Laws.LookUps.{request_of_in_front_of_other, request_of_in_front_of_own}
 use Rattle.bus_order.proofs.Laws.Orders.{one_each_appended, one_each_in_front_of}
@@ -8,9 +10,8 @@ use Rattle.bus_order.specs.Order.{IsOneEach, Request, appended, in_front_of, req
 use Rattle.el_model.specs.Order.{unraised}
 use Rattle.el_model.specs.State.{ModelState, hart_of, with_hart}
 use Rattle.mail.specs.Mailbox.{Marker, posted}
-use Rattle.snoop.proofs.Ready.{few_armed_yet, ready_agent, served_yet}
-use Rattle.snoop.proofs.Showing.{agent_other, agent_past, agent_same, count_with_agent, shows_agent}
-use Rattle.snoop.specs.Agent.{Agent, agent_at, agent_posted, with_agent}
+use Rattle.snoop.proofs.Ready.{ready_agent, served_yet}
+use Rattle.snoop.proofs.Showing.{shows_agent}
 use Rattle.snoop.specs.Leaving.{LeavesCopies}
 use Rattle.snoop.specs.Shows.{CanBeServed, IsReady, BusState, Shows}
 

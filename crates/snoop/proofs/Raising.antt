@@ -2,13 +2,14 @@
 use Rattle.std.proofs.Common.{◌≡◌, ◌≢◌, ◌∙◌, ℕ, ◌<◌, true, length, None, Some, refl, ap, sym, arith, inl, inr}
 use Rattle.std.proofs.lemmas.Bool.{cases_eq}
 use Rattle.std.proofs.lemmas.Option.{same_Some}
+use Rattle.bus_agent.proofs.Laws.Agents.{agent_other, agent_same, count_with_agent, few_armed_yet}
+use Rattle.bus_agent.specs.Agent.{Agent, agent_at, agent_of, with_agent}
 use Rattle.bus_order.specs.Order.{Request, request_of}
 use Rattle.el_base.specs.declared.outcomes.Need.{Need}
 use Rattle.el_model.specs.Plain.{missed_hart}
 use Rattle.el_model.specs.State.{ModelState, hart_of, with_hart}
-use Rattle.snoop.proofs.Ready.{few_armed_yet, served_yet}
-use Rattle.snoop.proofs.Showing.{agent_other, agent_same, count_with_agent, shows_agent}
-use Rattle.snoop.specs.Agent.{Agent, agent_at, agent_of, with_agent}
+use Rattle.snoop.proofs.Ready.{served_yet}
+use Rattle.snoop.proofs.Showing.{shows_agent}
 use Rattle.snoop.specs.Asking.{HasNoRequest}
 use Rattle.snoop.specs.Shows.{CanBeServed, IsReady, BusState, LiesIn, Shows, has_room_in}
 

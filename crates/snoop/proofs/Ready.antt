@@ -1,13 +1,12 @@
 -- what a call leaves is ready for the next one
-use Rattle.std.proofs.Common.{◌≡◌, ◌∙◌, ℕ, ◌<◌, ◌≤◌, true, List, length, Option, Some, None, refl, ap, sym, subst, inl}
-use Rattle.std.proofs.Common.{inr, arith}
+use Rattle.std.proofs.Common.{◌≡◌, ◌∙◌, ℕ, ◌<◌, ◌≤◌, true, length, Option, Some, None, refl, ap, sym, inl, inr, arith}
 use Rattle.std.proofs.lemmas.Bool.{cases_eq, cases_lt}
+use Rattle.bus_agent.proofs.Laws.Agents.{agent_other, agent_past, agent_same, count_with_agent, few_armed_yet}
+use Rattle.bus_agent.specs.Agent.{Agent, agent_at, with_agent}
 use Rattle.bus_order.specs.Order.{IsOneEach, Request, request_of}
 use Rattle.residency.specs.WellFormed.{IsWellFormed}
 use Rattle.coherence.specs.Lent.{slotted_at}
-use Rattle.snoop.specs.Agent.{Agent, agent_at, with_agent}
 use Rattle.snoop.specs.Shows.{CanBeServed, IsReady, IsUnmarked, BusState, LiesIn, has_room_in}
-use Rattle.snoop.proofs.Showing.{agent_other, agent_past, agent_same, count_with_agent}
 
 -- a request that stands after a call stood before it, and where there was room for it there is
 pub record Stood (bus new : BusState) (h : ℕ) (before : Option Request) (request : Request) : Type 0 where
@@ -67,23 +66,6 @@ ready_after bus new ready after = record {
         both : (found : Option Request) → found ≡ None → found ≡ Some other → ⊥
         both None first second = absurd (cc)
         both (Some request) first second = absurd (cc)
-
--- the counts that are noted, after one agent has changed
-pub few_armed_yet : (agents : List Agent) (h : ℕ) (agent : Agent) → ((g : ℕ) → (agent_at agents g).armed ≤ 15) →
-    agent.armed ≤ 15 → (g : ℕ) → (agent_at (with_agent agents h agent) g).armed ≤ 15
-few_armed_yet agents h agent few here g = elim (cases_eq g h) [
-  | inl own ↦ elim (cases_lt h (length agents)) [
-    | inl below ↦
-        subst (λ a. a.armed ≤ 15)
-        (sym (ap (agent_at (with_agent agents h agent)) own ∙ agent_same agents h agent below)) here
-    | inr past ↦
-        subst (λ a. a.armed ≤ 15)
-        (agent_past agents g (omega (arith, past, own))
-        ∙ sym (agent_past (with_agent agents h agent) g (omega (arith, past, own, count_with_agent agents h agent))))
-        (few g)
-  ]
-  | inr other ↦ subst (λ a. a.armed ≤ 15) (sym (agent_other agents h g agent other)) (few g)
-]
 
 -- one agent has changed, and has raised no other request
 pub asks_agent : (bus : BusState) (h : ℕ) (agent : Agent) → IsReady bus →

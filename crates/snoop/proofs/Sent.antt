@@ -1,7 +1,9 @@
 -- the markers that are sent, as the agents have them and as the definition has them
-use Rattle.std.proofs.Common.{◌≡◌, ◌≢◌, ◌∙◌, ℕ, zero, suc, ◌+◌, ◌<◌, ◌≤◌, Bool, cond, List, [], ◌∷◌, length, map}
-use Rattle.std.proofs.Common.{is_some, refl, ap, sym, subst, arith}
+use Rattle.std.proofs.Common.{◌≡◌, ◌≢◌, ◌∙◌, ℕ, suc, ◌+◌, ◌<◌, ◌≤◌, Bool, cond, List, [], ◌∷◌, length, map, is_some}
+use Rattle.std.proofs.Common.{refl, ap, sym, subst, arith}
 use Rattle.std.specs.List.{filter}
+use Rattle.bus_agent.proofs.Laws.Agents.{agent_kept, agent_other, agent_same, count_with_agent}
+use Rattle.bus_agent.specs.Agent.{Agent, agent_at, agent_of, agent_posted, with_agent}
 use Rattle.el_base.specs.declared.config.Mode.{Mode}
 use Rattle.el_base.specs.declared.config.Mode.TheVariants.{Plain, Sle, Tlr}
 use Rattle.bus_order.specs.Order.{Request}
@@ -9,21 +11,10 @@ use Rattle.el_model.specs.Face.{Fate, LosesTo, Stays, Unmet, fate_at, markers_fo
 use Rattle.el_model.specs.State.{Hart, ModelState, count_up, post_all}
 use Rattle.mail.specs.Mailbox.{Marker, Message, posted}
 use Rattle.snoop.proofs.Ready.{ready_after}
-use Rattle.snoop.proofs.Showing.{agent_other, agent_same, count_with_agent}
-use Rattle.snoop.specs.Agent.{Agent, agent_at, agent_of, agent_posted, with_agent}
 use Rattle.snoop.specs.Fates.{fate_in, numbered_fate}
 use Rattle.snoop.specs.Settled.{marker_sent, markers_sent, sent_in}
 use Rattle.snoop.specs.Shows.{IsReady, BusState}
 use Rattle.snoop.specs.declared.fates.Fate as fates
-
--- what a change of one agent keeps, every agent keeps
-pub agent_kept : {A : Type 0} (f : Agent → A) (agents : List Agent) (h g : ℕ) (agent : Agent) →
-    f agent ≡ f (agent_at agents h) → f (agent_at (with_agent agents h agent) g) ≡ f (agent_at agents g)
-agent_kept f [] h g agent keeps = refl
-agent_kept f (first ∷ agents) zero zero agent keeps = keeps
-agent_kept f (first ∷ agents) zero (suc g) agent keeps = refl
-agent_kept f (first ∷ agents) (suc h) zero agent keeps = refl
-agent_kept f (first ∷ agents) (suc h) (suc g) agent keeps = agent_kept f agents h g agent keeps
 
 -- a marker changes the mailbox of one hart alone
 one_kept : {A : Type 0} (f : Agent → A) (fate : Fate) (from to : ℕ) (agents : List Agent) (g : ℕ) →

@@ -4,6 +4,8 @@ use Rattle.std.proofs.Common.{◌∷◌, length}
 use Rattle.std.proofs.Common.{Option, Some, None, is_some, refl, ap, sym, subst, inl, inr, arith, if◌then◌else◌}
 use Rattle.std.specs.List.{list_any}
 use Rattle.std.proofs.lemmas.Bool.{cases_eq, cases_lt}
+use Rattle.bus_agent.proofs.Laws.Agents.{agent_past}
+use Rattle.bus_agent.specs.Agent.{Agent, agent_at, agent_claiming, agent_forgetting, agent_of, agent_served}
 use Rattle.bus_order.specs.Order.{IsOneEach, Request, removed, request_of}
 use Rattle.bus_order.proofs.Laws.LookUps.{request_of_removed_other, request_of_removed_own}
 use Rattle.bus_order.proofs.Laws.Orders.{one_each_removed}
@@ -30,8 +32,7 @@ use Rattle.el_model.specs.Plain.{armed_count}
 use Rattle.el_model.specs.State.{Armed, Hart, ModelState, Section, armed_of, cache_of, count_up, each_hart, hart_of}
 use Rattle.el_model.specs.State.{is_live, section_of}
 use Rattle.el_model.proofs.Laws.HartParts.{claim_armed, claim_section}
-use Rattle.snoop.specs.Agent.{Agent, agent_at, agent_forgetting, agent_of, agent_served}
-use Rattle.snoop.specs.Serving.{CopiesClaim, CopiesServe, Serves, agent_after_serve, agent_claiming}
+use Rattle.snoop.specs.Serving.{CopiesClaim, CopiesServe, Serves, agent_after_serve}
 use Rattle.line_pool.specs.Pooled.{Pooled}
 use Rattle.snoop.specs.Shows.{CanBeServed, Holding, IsReady, IsUnmarked, BusState, Shows, TellsIn, has_room_in}
 use Rattle.snoop.specs.Shows.{lent_copies, lives, lives_at}
@@ -42,7 +43,7 @@ use Rattle.snoop.proofs.Ready.{ready_after}
 use Rattle.section_laws.proofs.Laws.ServedCaches.{others_room, others_well_formed, own_after, own_after_well_formed}
 use Rattle.el_model.proofs.Laws.Unmarked.{others_unmarked}
 use Rattle.snoop.proofs.ServedMarks.{others_marks, own_after_marks}
-use Rattle.snoop.proofs.Showing.{ShowsEach, agent_past, lies_yet, shows_each}
+use Rattle.snoop.proofs.Showing.{ShowsEach, lies_yet, shows_each}
 
 -- a hart that the test takes for another, and one that it takes for itself
 at_own : {A : Type 0} (g h : ℕ) (x y : A) → g ≡ h → (if g == h then x else y) ≡ x

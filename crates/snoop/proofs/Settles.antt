@@ -1,9 +1,9 @@
 -- each hart has its fate, one after another
 use Rattle.std.proofs.Common.{◌≡◌, ◌∙◌, ℕ, ◌+◌, ◌<◌, length, ap}
+use Rattle.bus_agent.specs.Agent.{Agent, agent_at, with_agent}
 use Rattle.bus_order.specs.Order.{Request}
 use Rattle.el_model.specs.Face.{Fate}
 use Rattle.snoop.proofs.Changes.{no_hart_changed, one_hart_changed}
-use Rattle.snoop.specs.Agent.{Agent, agent_at, with_agent}
 use Rattle.snoop.specs.Settled.{AreSettledBelow, IsSettledAt, loses, settled_agent}
 use Rattle.snoop.specs.Shows.{BusState}
 

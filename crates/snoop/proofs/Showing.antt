@@ -1,13 +1,13 @@
 -- what the bus shows after one hart has changed, and after each has
-use Rattle.std.proofs.Common.{◌≡◌, ◌≢◌, ◌∙◌, ℕ, zero, suc, ◌*◌, ◌<◌, ◌≤◌, List, [], ◌∷◌, Option, None, Some, length}
-use Rattle.std.proofs.Common.{refl, ap, sym, subst, inl, inr, arith}
+use Rattle.std.proofs.Common.{◌≡◌, ◌∙◌, ℕ, ◌*◌, ◌<◌, ◌≤◌, length, refl, ap, sym, subst, inl, inr, arith}
 use Rattle.std.specs.Prelude.{slice_set}
 use Rattle.std.proofs.lemmas.Bool.{cases_eq, cases_lt}
-use Rattle.std.proofs.lemmas.List.{get_or-set_same, get_or-set_other, length-set}
+use Rattle.std.proofs.lemmas.List.{length-set}
+use Rattle.bus_agent.proofs.Laws.Agents.{agent_other, agent_past, agent_same, count_with_agent}
+use Rattle.bus_agent.specs.Agent.{Agent, agent_at, agent_of, with_agent}
 use Rattle.coherence.specs.Beginning.{LiesWhere}
 use Rattle.coherence.specs.Lent.{slotted_at}
 use Rattle.el_base.specs.declared.line.TheConstants.{LINE_BYTES}
-use Rattle.el_model.specs.Attempts.{close_attempt, closed_clock}
 use Rattle.el_model.specs.State.{Hart, ModelState, armed_of, cache_of, each_from, each_hart, hart_of, new_hart}
 use Rattle.el_model.specs.State.{section_of, with_hart}
 use Rattle.el_model.proofs.Laws.Harts.{hart_of-each_hart, hart_of-each_hart_past, hart_of-past, hart_of-with_hart_same}
@@ -15,11 +15,9 @@ use Rattle.el_model.proofs.Laws.Harts.{hart_of-with_hart_other, with_hart_kept}
 use Rattle.el_model.proofs.Laws.Keeps.{length-each_from}
 use Rattle.snoop.proofs.Lent.{beyond}
 use Rattle.snoop.proofs.Laws.Living.{TellsSection, tells, tells_nothing, tells_yet}
-use Rattle.snoop.specs.Agent.{Agent, agent_at, agent_closed, agent_of, clock_after, new_agent, with_agent}
 use Rattle.rv_flat.specs.FlatState.{FlatState}
 use Rattle.snoop.specs.LettingGo.{KeepsBytes, with_committed}
 use Rattle.snoop.specs.Shows.{Holding, BusState, Shows}
-use Rattle.stamp.specs.Stamps.{Stamp}
 
 -- main memory that has not moved lies where it did
 pub lies_yet : (old new : Holding) (flat : FlatState) → new.first ≡ old.first → length new.lines ≡ length old.lines →
@@ -28,25 +26,6 @@ lies_yet old new flat first lines lies = record {
   first = ap (λ n. n * LINE_BYTES) first ∙ lies.first;
   lines = ap (λ n. n * LINE_BYTES) lines ∙ lies.lines;
 }
-
--- an agent past the last one
-pub agent_past : (agents : List Agent) (h : ℕ) → length agents ≤ h → agent_at agents h ≡ new_agent
-agent_past [] h past = refl
-agent_past (agent ∷ agents) zero past = absurd (omega arith)
-agent_past (agent ∷ agents) (suc h) past = agent_past agents h (omega arith)
-
--- an agent after one has become another
-pub agent_same : (agents : List Agent) (h : ℕ) (agent : Agent) → h < length agents →
-    agent_at (with_agent agents h agent) h ≡ agent
-agent_same agents h agent below = get_or-set_same agents h agent new_agent below
-
-pub agent_other : (agents : List Agent) (h g : ℕ) (agent : Agent) → g ≢ h →
-    agent_at (with_agent agents h agent) g ≡ agent_at agents g
-agent_other agents h g agent differs = get_or-set_other agents h g agent new_agent differs
-
-pub count_with_agent : (agents : List Agent) (h : ℕ) (agent : Agent) →
-    length (with_agent agents h agent) ≡ length agents
-count_with_agent agents h agent = length-set agents h agent
 
 -- the state has another committed part, which has the same memory
 pub shows_committed : (bus : BusState) (state : ModelState) (committed : FlatState) →
@@ -118,15 +97,6 @@ pub shows_agent : (bus : BusState) (state : ModelState) (h : ℕ) (agent : Agent
 shows_agent bus state h agent hart shows is section armed cache =
     shows_told bus state h agent hart shows is cache
     (tells_yet (hart_of state h) hart section armed cache (tells shows h))
-
--- the agent of a hart whose attempt has closed
-closed_at : (hart : Hart) (attempt : Option Stamp) →
-    clock_after hart.clock hart.seen attempt ≡ closed_clock hart attempt
-closed_at hart None = refl
-closed_at hart (Some stamp) = refl
-
-pub closed_agent : (hart : Hart) → agent_closed (agent_of hart) ≡ agent_of (close_attempt hart)
-closed_agent hart = ap (λ clock. record (agent_of hart) { attempt = None; clock = clock }) (closed_at hart hart.attempt)
 
 -- what each hart has become, as the bus shows it
 pub record ShowsEach (bus new : BusState) (state : ModelState) (becomes : ℕ → Hart → Hart) : Type 0 where

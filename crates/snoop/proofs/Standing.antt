@@ -1,10 +1,11 @@
 -- a bus that nothing was asked of is ready, and stays so as a hart raises a request that can be served
-use Rattle.std.proofs.Common.{◌≡◌, ◌≢◌, ◌∙◌, ℕ, zero, suc, ◌<◌, ◌≤◌, Bool, true, false, List, [], ◌∷◌, ◌++◌, length}
-use Rattle.std.proofs.Common.{Option, Some, None}
+use Rattle.std.proofs.Common.{◌≡◌, ◌≢◌, ◌∙◌, ℕ, ◌<◌, ◌≤◌, Bool, true, false, List, [], length, Option, Some, None}
 use Rattle.std.proofs.Common.{is_some, refl, ap, sym, subst, arith, inl, inr}
 use Rattle.std.specs.Bool.{MatchBool}
 use Rattle.std.specs.Option.{option_map}
 use Rattle.std.proofs.lemmas.Bool.{cases_eq}
+use Rattle.bus_agent.proofs.Laws.Agents.{agent_other, agent_same, count_with_agent, few_armed_yet}
+use Rattle.bus_agent.specs.Agent.{Agent, agent_at, with_agent}
 use Rattle.bus_order.proofs.Laws.Orders.{one_each_none}
 use Rattle.bus_order.specs.Order.{Request, numbered, request_of}
 use Rattle.bus_order.specs.declared.request.Request as requests
@@ -13,9 +14,7 @@ use Rattle.coherence.specs.Lent.{slotted_at}
 use Rattle.el_base.specs.declared.config.Mode.{Mode}
 use Rattle.el_base.proofs.Laws.Options.{none_nor_some}
 use Rattle.el_base.specs.declared.config.Mode.TheVariants.{Plain}
-use Rattle.snoop.proofs.Ready.{few_armed_yet, served_yet}
-use Rattle.snoop.proofs.Showing.{agent_other, agent_same, count_with_agent}
-use Rattle.snoop.specs.Agent.{Agent, agent_at, with_agent}
+use Rattle.snoop.proofs.Ready.{served_yet}
 use Rattle.snoop.specs.Shows.{CanBeServed, Holding, IsReady, IsUnmarked, BusState}
 
 pub ready_at_rest : (mode : Mode) (copies : Holding) (agents : List Agent) → length agents ≤ 8 →
@@ -36,22 +35,6 @@ ready_at_rest mode copies agents few each formed none few_armed unmarked = recor
   few_armed = few_armed;
   unmarked = unmarked;
 }
-
--- one agent more that has raised no request
-pub none_raised_more : (agents : List Agent) (agent : Agent) → ((h : ℕ) → (agent_at agents h).raised ≡ None) →
-    agent.raised ≡ None → (h : ℕ) → (agent_at (agents ++ agent ∷ []) h).raised ≡ None
-none_raised_more [] agent none here zero = here
-none_raised_more [] agent none here (suc h) = refl
-none_raised_more (first ∷ agents) agent none here zero = none 0
-none_raised_more (first ∷ agents) agent none here (suc h) = none_raised_more agents agent (λ k. none (suc k)) here h
-
--- and one more that is noted as armed for few instructions
-pub few_armed_more : (agents : List Agent) (agent : Agent) → ((h : ℕ) → (agent_at agents h).armed ≤ 15) →
-    agent.armed ≤ 15 → (h : ℕ) → (agent_at (agents ++ agent ∷ []) h).armed ≤ 15
-few_armed_more [] agent few here zero = here
-few_armed_more [] agent few here (suc h) = omega arith
-few_armed_more (first ∷ agents) agent few here zero = few 0
-few_armed_more (first ∷ agents) agent few here (suc h) = few_armed_more agents agent (λ k. few (suc k)) here h
 
 -- a hart has raised a request
 abbrev pub with_raised : List Agent → Request → List Agent

@@ -2,6 +2,7 @@
 use Rattle.std.proofs.Common.{◌≡◌, ◌∙◌, ℕ, zero, suc, true, List, [], ◌∷◌, None, length, map, refl, ap, sym, subst}
 use Rattle.std.proofs.Common.{if◌then◌else◌}
 use Rattle.std.proofs.lemmas.List.{length-map}
+use Rattle.bus_agent.specs.Agent.{Agent, agent_at}
 use Rattle.bus_order.specs.Order.{Request}
 use Rattle.el_base.specs.Losers.{losers_of}
 use Rattle.el_base.specs.declared.config.Mode.{Mode}
@@ -12,7 +13,6 @@ use Rattle.el_model.specs.State.{ModelState, hart_of}
 use Rattle.snoop.proofs.Changes.{nobody_changed}
 use Rattle.snoop.proofs.Faced.{faced_losers, faced_shows}
 use Rattle.snoop.proofs.Facing.{plain_unmet}
-use Rattle.snoop.specs.Agent.{Agent, agent_at}
 use Rattle.snoop.specs.Fates.{fate_in, nobody_met}
 use Rattle.snoop.specs.Settled.{AreSettledBelow, loses, markers_sent, sent_in, settled_agent}
 use Rattle.snoop.specs.Shows.{BusState, IsReady, Shows}

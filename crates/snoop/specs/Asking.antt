@@ -1,8 +1,8 @@
 -- what a hart has asked of the bus
 use Rattle.std.specs.Prelude.{ℕ, ◌≡◌, Option, None, Some}
+use Rattle.bus_agent.specs.Agent.{agent_at}
 use Rattle.bus_order.specs.Order as order
 use Rattle.bus_order.specs.Order.{Request, request_of}
-use Rattle.snoop.specs.Agent.{agent_at}
 use Rattle.snoop.specs.Shows.{BusState}
 use Rattle.snoop.specs.declared.asked.Asked.{Asked}
 use Rattle.snoop.specs.declared.asked.Asked.TheVariants as declared

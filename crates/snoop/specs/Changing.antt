@@ -1,5 +1,6 @@
 -- harts change at the bus, one after another: their agents, and some of their caches are cleared
 use Rattle.std.specs.Prelude.{ℕ, ◌≡◌, ◌<◌, ◌≤◌, Bool, true, false, List, length}
+use Rattle.bus_agent.specs.Agent.{Agent, agent_at, with_agent}
 use Rattle.residency.specs.Cache.{cleared}
 use Rattle.residency.specs.Residency.{Way}
 use Rattle.cache_sets.specs.Calls.{IsCleared}
@@ -7,7 +8,6 @@ use Rattle.cache_sets.specs.Slotted.{Slotted}
 use Rattle.coherence.specs.Changed.{IsChangedAt}
 use Rattle.coherence.specs.Lent.{IsLentTo, slotted_at}
 use Rattle.line_pool.specs.Pooled.{Pooled}
-use Rattle.snoop.specs.Agent.{Agent, agent_at, with_agent}
 use Rattle.snoop.specs.Shows.{Holding, BusState, TellsIn, lent_copies}
 
 -- what is left of the lines of a cache that has no bits any more where a test says so

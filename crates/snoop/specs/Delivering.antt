@@ -1,17 +1,16 @@
 -- what the bus makes of its parts as a message is delivered
-use Rattle.std.specs.Prelude.{ℕ, zero, suc, ◌≡◌, ◌<◌, ◌==◌, ◌&&◌, Bool, true, false, not, List, [], ◌∷◌, map, filter}
-use Rattle.std.specs.Prelude.{length, Option, None}
-use Rattle.std.specs.Prelude.{Some, is_some, if◌then◌else◌}
+use Rattle.std.specs.Prelude.{ℕ, zero, suc, ◌≡◌, ◌==◌, ◌&&◌, Bool, true, false, not, List, [], ◌∷◌, map, filter, length}
+use Rattle.std.specs.Prelude.{Option, None, Some, is_some}
+use Rattle.bus_agent.specs.Agent.{Agent, agent_at, agent_behind, agent_heard, agent_posted, with_agent}
+use Rattle.bus_agent.specs.Forwarding.{AreForwarded}
 use Rattle.bus_order.specs.Order.{Request, request_of}
 use Rattle.defer_list.specs.HartSet.{has}
 use Rattle.el_model.specs.Conflicts.{stamp_in}
 use Rattle.el_model.specs.State.{for_line}
 use Rattle.mail.specs.Mailbox.{Message, Probe}
-use Rattle.snoop.specs.Agent.{Agent, agent_at, agent_behind, agent_posted, agent_seeing, agent_told, with_agent}
 use Rattle.snoop.specs.Changing.{IsClearedAt}
 use Rattle.snoop.specs.Settled.{in_removal}
 use Rattle.snoop.specs.Shows.{BusState}
-use Rattle.stamp.specs.Stamps.{Stamp}
 
 -- so many numbers from one on, ascending
 abbrev pub numbers_from : ℕ → ℕ → List ℕ
@@ -53,15 +52,6 @@ marker_taken bus h sender =
     posts_sent (Probe h ∷ passed_on bus h sender (request_of bus.order h)) sender
     (with_agent bus.agents h (agent_behind sender (agent_at bus.agents h)))
 
--- a probe of an origin is forwarded to a hart that is before the one that has it, and is not the origin itself
-abbrev pub agent_forwarded : List ℕ → ℕ → ℕ → Agent → Agent
-agent_forwarded upstream origin g agent =
-    if not (g == origin) && has upstream g then agent_posted (Probe origin) agent else agent
-
-pub record AreForwarded (upstream : List ℕ) (origin : ℕ) (old new : List Agent) : Type 0 where
-  pub count : length new ≡ length old
-  pub each : (g : ℕ) → g < length old → agent_at new g ≡ agent_forwarded upstream origin g (agent_at old g)
-
 -- whether a hart is ordered on the line of a request, if there is one
 abbrev pub asks_on : List Request → ℕ → Option Request → Bool
 asks_on order h None = false
@@ -77,10 +67,6 @@ pub record IsForwarded (h origin : ℕ) (request : Option Request) (old new : Bu
   pub copies : new.copies ≡ old.copies
   pub order : new.order ≡ old.order
   pub agents : Forwards (asks_on old.order h request) (agent_at old.agents h).upstream origin old.agents new.agents
-
--- a hart was told of an origin and has seen a stamp, if there is one
-abbrev pub agent_heard : ℕ → Option Stamp → Agent → Agent
-agent_heard origin stamp agent = agent_seeing stamp (agent_told origin agent)
 
 -- a hart was told of an origin, and has lost its section to the origin's request
 pub record IsLostTo (h origin : ℕ) (request : Option Request) (old new : BusState) : Type 0 where

@@ -2,13 +2,13 @@
 use Rattle.std.specs.Prelude.{ℕ, suc, Bool, true, false, ◌&&◌, List, [], ◌∷◌, Option, None, Some, option_map}
 use Rattle.std.specs.Prelude.{slice_index_or, if◌then◌else◌}
 use Rattle.std.specs.List.{list_all}
+use Rattle.bus_agent.specs.Agent.{Agent}
 use Rattle.bus_order.specs.Order.{Request, request_of}
 use Rattle.defer_list.specs.HartSet.{has}
 use Rattle.el_base.specs.declared.hart_id.HartId.{HartId}
 use Rattle.el_model.specs.Conflicts.{earlier, stamp_in}
 use Rattle.el_model.specs.Face.{Fate, LosesTo, Stays, Unmet}
 use Rattle.el_model.specs.State.{for_line}
-use Rattle.snoop.specs.Agent.{Agent}
 use Rattle.snoop.specs.declared.fates.Fate as fates
 use Rattle.snoop.specs.declared.fates.Fate.TheVariants as declared
 use Rattle.stamp.specs.Stamps.{Stamp, is_before}

@@ -1,5 +1,6 @@
 -- armed sections that a head lets go
 use Rattle.std.specs.Prelude.{ℕ, ◌≡◌, ◌==◌, ◌&&◌, Bool, true, false, not, is_some, if◌then◌else◌}
+use Rattle.bus_agent.specs.Agent.{Agent, agent_at, agent_noted, agent_of}
 use Rattle.bus_order.specs.Order.{Request}
 use Rattle.residency.specs.Cache.{has_bit}
 use Rattle.coherence.specs.Lent.{slotted_at}
@@ -8,7 +9,6 @@ use Rattle.el_base.specs.declared.freed.Freed.{Freed}
 use Rattle.el_model.specs.Conflicts.{is_write}
 use Rattle.el_model.specs.State.{Hart, ModelState, cache_of, hart_of}
 use Rattle.rv_flat.specs.FlatState.{FlatState}
-use Rattle.snoop.specs.Agent.{Agent, agent_at, agent_noted, agent_of}
 use Rattle.snoop.specs.Changing.{AreHartsChanged, IsHartChanged}
 use Rattle.snoop.specs.Shows.{BusState, lives}
 

@@ -1,4 +1,3 @@
-pub mod Agent
 pub mod Fates
 pub mod Settled
 pub mod Deciding

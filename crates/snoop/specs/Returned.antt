@@ -1,6 +1,7 @@
 -- what a caller gives back of a cache that was lent to it, so that the bus is ready again, and what the bus shows then
 use Rattle.std.specs.Prelude.{ℕ, ◌≡◌, false, true, Some, is_some, length}
 use Rattle.std.specs.Prelude.{slice_set}
+use Rattle.bus_agent.specs.Agent.{agent_at, agent_of}
 use Rattle.bus_order.specs.Order.{Request, request_of}
 use Rattle.residency.specs.Cache.{has_marks, room_of}
 use Rattle.cache_sets.specs.Slotted.{Slotted}
@@ -11,7 +12,6 @@ use Rattle.el_base.specs.declared.config.Mode.TheVariants.{Plain}
 use Rattle.el_model.specs.Plain.{armed_count}
 use Rattle.el_model.specs.State.{Hart, ModelState, armed_of, hart_of, with_hart}
 use Rattle.rv_flat.specs.FlatState.{FlatState}
-use Rattle.snoop.specs.Agent.{agent_at, agent_of}
 use Rattle.snoop.specs.Shows.{BusState, lives}
 
 -- another cache in the place of a hart's

@@ -1,17 +1,12 @@
 -- what the bus makes of its parts as a request is served
-use Rattle.std.specs.Prelude.{ℕ, ◌≡◌, ◌<◌, ◌==◌, Bool, true, false, List, length, Some, if◌then◌else◌}
+use Rattle.std.specs.Prelude.{ℕ, ◌≡◌, ◌<◌, ◌==◌, Bool, true, false, List, length, if◌then◌else◌}
+use Rattle.bus_agent.specs.Agent.{Agent, agent_at, agent_claiming, agent_forgetting, agent_served}
 use Rattle.bus_order.specs.Order.{Request, removed}
 use Rattle.coherence.specs.Changed.{GetsBit, IsChangedAt}
 use Rattle.coherence.specs.Lent.{IsLentTo, LeavesHolds}
 use Rattle.coherence.specs.Served.{Copies, IsServed}
-use Rattle.snoop.specs.Agent.{Agent, agent_at, agent_forgetting, agent_served}
 use Rattle.line_pool.specs.Pooled.{Pooled}
 use Rattle.snoop.specs.Shows.{BusState, lent_copies, lives_at}
-
--- a hart without a live section holds the line that it was served; one with a live section has a bit instead
-abbrev pub agent_claiming : Bool → ℕ → Agent → Agent
-agent_claiming true line agent = agent
-agent_claiming false line agent = record agent { held_line = Some line }
 
 -- what an agent becomes, by whether the served hart has a live section
 abbrev pub agent_after_serve : Bool → Request → ℕ → Agent → Agent

@@ -1,11 +1,11 @@
 -- what becomes of agents and caches as each hart has its fate
 use Rattle.std.specs.Prelude.{ℕ, suc, Bool, true, false, List, [], ◌∷◌, Option, None}
+use Rattle.bus_agent.specs.Agent.{Agent, agent_at, agent_posted, agent_seeing, with_agent}
 use Rattle.bus_order.specs.Order.{Request}
 use Rattle.el_base.specs.declared.config.Mode.{Mode}
 use Rattle.el_base.specs.declared.config.Mode.TheVariants.{Plain, Sle, Tlr}
 use Rattle.el_model.specs.Face.{Fate, LosesTo, Stays, Unmet}
 use Rattle.mail.specs.Mailbox.{Marker}
-use Rattle.snoop.specs.Agent.{Agent, agent_at, agent_posted, agent_seeing, with_agent}
 use Rattle.snoop.specs.Changing.{AreHartsChanged, IsHartChanged}
 use Rattle.snoop.specs.Fates.{numbered_fate, stamp_on}
 use Rattle.snoop.specs.Shows.{BusState}

@@ -1,6 +1,7 @@
 -- what the bus keeps, and the state of the machine's definition that it shows
 use Rattle.std.specs.Prelude.{ℕ, ◌≡◌, ◌<◌, ◌≤◌, ◌==◌, ◌&&◌, Bool, false, true, not, List, None, Some, is_some}
 use Rattle.std.specs.Prelude.{length}
+use Rattle.bus_agent.specs.Agent.{Agent, agent_at, agent_of}
 use Rattle.bus_order.specs.Order.{IsOneEach, Request, request_of}
 use Rattle.residency.specs.Cache.{has_marks, room_of}
 use Rattle.residency.specs.Residency.{Way}
@@ -16,7 +17,6 @@ use Rattle.el_base.specs.declared.config.Mode.TheVariants.{Plain}
 use Rattle.el_model.specs.Plain.{armed_count}
 use Rattle.el_model.specs.State.{ModelState, armed_of, cache_of, hart_of, is_live}
 use Rattle.line_pool.specs.Pooled.{Pooled}
-use Rattle.snoop.specs.Agent.{Agent, agent_at, agent_of}
 use Rattle.snoop.specs.declared.bus.Bus as buses
 
 -- main memory, and the caches of all harts where their pool is not at hand

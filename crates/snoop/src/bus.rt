@@ -2,6 +2,7 @@
 
 ghost use Rattle.std.specs.Prelude.{◌≡◌, ◌<◌, ◌≤◌, ◌*◌, ◌%◌, ◌↔◌, ℕ, List, IfOk, IfSome, IsNone, None, length, slice_index, true};
 ghost use Rattle.std.specs.Borrow.{sem};
+ghost use Rattle.bus_agent.specs.Agent.{agent_at};
 ghost use Rattle.bus_order.specs.Order.{request_of};
 ghost use Rattle.coherence.specs.Beginning.{bytes_at_first, lines_at_first};
 ghost use Rattle.coherence.specs.Caches.{behind_of};
@@ -13,14 +14,12 @@ ghost use Rattle.el_model.specs.Attempts as attempts;
 ghost use Rattle.el_model.specs.Plain.{missed_hart};
 ghost use Rattle.el_model.specs.State.{ModelState, begin, cache_of, hart_of, ordered_of, raised_of, with_hart};
 ghost use Rattle.line_pool.specs.Pooled.{Pooled};
-ghost use Rattle.snoop.specs.Agent.{agent_at};
 ghost use Rattle.snoop.specs.Asking.{HasNoRequest, asking, numbered_asked};
 ghost use Rattle.snoop.specs.Leaving.{LeavesCopies, LeavesNoted};
 ghost use Rattle.snoop.specs.Shows.{IsReady, IsTold, LiesIn, Shows, Tells, has_room_in, bus_state};
 
-use crate::agent::Agent;
-use crate::agents::{close_attempt, give_up, new_agents, note_armed, open_attempt, raise};
 use crate::asked::Asked;
+use bus_agent::{Agent, close_attempt, give_up, new_agents, note_armed, open_attempt, raise};
 use bus_order::{Order, Request};
 use cache_sets::Sets;
 use coherence::Hierarchy;

@@ -3,6 +3,7 @@
 ghost use Rattle.std.specs.Prelude.{◌≡◌, ◌<◌, ◌≤◌, ◌&&◌, Option, None, Some};
 ghost use Rattle.std.specs.Prelude.{is_some, length, if◌then◌else◌};
 ghost use Rattle.std.specs.Option.{option_map};
+ghost use Rattle.bus_agent.specs.Agent.{agent_at};
 ghost use Rattle.bus_order.specs.Order.{numbered, request_of};
 ghost use Rattle.defer_list.specs.HartSet.{has};
 ghost use Rattle.el_model.specs.Conflicts.{retains, stamp_in};
@@ -10,28 +11,16 @@ ghost use Rattle.el_model.specs.Deliver as delivery;
 ghost use Rattle.el_model.specs.State.{ModelState, for_line, hart_of, ordered_of, with_hart};
 ghost use Rattle.mail.specs.Mailbox as mailbox;
 ghost use Rattle.mail.specs.Mailbox.{Marker, Probe};
-ghost use Rattle.snoop.specs.Agent.{agent_at, with_agent};
-ghost use Rattle.snoop.specs.Delivering.{
-  AreForwarded,
-  IsForwarded,
-  IsLostTo,
-  agent_forwarded,
-  asks_on,
-  marker_taken,
-  numbers_from,
-  passes,
-  probe_sent,
-  probes_sent,
-};
+ghost use Rattle.snoop.specs.Delivering.{IsForwarded, IsLostTo, asks_on, marker_taken, numbers_from, passes};
+ghost use Rattle.snoop.specs.Delivering.{probe_sent, probes_sent};
 ghost use Rattle.snoop.specs.Leaving.{LeavesCopies, LosesSections};
 ghost use Rattle.snoop.specs.Settled.{in_removal};
 ghost use Rattle.snoop.specs.Shows.{IsReady, Shows, bus_state};
 ghost use Rattle.stamp.specs.Stamps as stamps;
 
-use crate::agent::Agent;
-use crate::agents::{come_behind, hear, post, take_message};
 use crate::bus::Bus;
 use crate::fates::is_before;
+use bus_agent::{come_behind, forward_all, hear, post, take_message};
 use bus_order::Request;
 use el_base::{HartId, LineAddr, Losers, Mode, Outcome};
 use mail::Message;
@@ -276,31 +265,5 @@ impl Bus {
             Some(request) => request.line.number == line.number,
             None => false,
         }
-    }
-}
-
-/// A probe is forwarded to the harts that are before one, but to its origin.
-#[tactic(auto, using(crate::proofs::EachAgent::none_changed, crate::proofs::Forwarding::one_forwarded, crate::proofs::Forwarding::all_forwarded))]
-fn forward_all(agents: &mut Vec<Agent>, hart: HartId, origin: HartId)
-    requires hart_exists { hart.number < length agents.old.items }
-    requires few { length agents.old.items ≤ 8 }
-    ensures { AreForwarded (agent_at agents.old.items hart.number).upstream origin.number
-        agents.old.items agents.new.items }
-{
-    for number in 0..agents.len() {
-        forward_one(agents, hart, origin, HartId::at(number));
-    }
-}
-
-/// A probe is forwarded to a hart, if that is before another and is not the origin.
-#[tactic(auto, using(crate::proofs::Forwarding::not_forwarded))]
-fn forward_one(agents: &mut Vec<Agent>, hart: HartId, origin: HartId, to: HartId)
-    requires { hart.number < length agents.old.items }
-    ensures { agents.new.items ≡ with_agent agents.old.items to.number (agent_forwarded
-        (agent_at agents.old.items hart.number).upstream origin.number to.number
-        (agent_at agents.old.items to.number)) }
-{
-    if to != origin && agents[usize::from(hart.number)].is_behind(to) {
-        post(agents, to, Message::Probe { origin });
     }
 }

@@ -1,11 +1,11 @@
 //! What becomes of each section as the head of a line is faced.
 
 ghost use Rattle.std.specs.Prelude.{◌≡◌, ◌<◌, ℕ, Some, length};
+ghost use Rattle.bus_agent.specs.Agent.{agent_at};
 ghost use Rattle.bus_order.specs.Order.{numbered};
 ghost use Rattle.el_model.specs.Conflicts.{earlier, told_winner};
 ghost use Rattle.el_model.specs.Face.{deferring_fate, fate_at, told_fate};
 ghost use Rattle.el_model.specs.State.{ModelState, hart_of};
-ghost use Rattle.snoop.specs.Agent.{agent_at};
 ghost use Rattle.snoop.specs.Deciding.{DecidesIn};
 ghost use Rattle.snoop.specs.Fates.{earlier_told, fate_in, nobody_met, number_of, numbered_fate, stamp_on};
 ghost use Rattle.snoop.specs.Shows.{IsReady, Shows, bus_state};

@@ -9,10 +9,10 @@ ghost use Rattle.snoop.specs.Leaving.{EndsSections};
 ghost use Rattle.snoop.specs.LettingGo.{AreLetGo, IsLetGo, freed_at, frees, with_committed};
 ghost use Rattle.snoop.specs.Shows.{IsReady, Shows, bus_state};
 
-use crate::agents::note_armed;
 use crate::bus::Bus;
 use crate::meeting::meets;
 use crate::wanting::writes;
+use bus_agent::note_armed;
 use bus_order::Request;
 use el_base::{Freed, HartId, Need};
 

@@ -1,10 +1,11 @@
 //! The bus: the order of requests, what is served, and the messages of lock removal.
 //!
-//! It stands on `coherence` (main memory and the copies of lines in the caches), on the small parts `bus_order`,
-//! `mail`, `defer_list` and `policy`, and on the words of `el_model`. The bus has no state of its own in
-//! contracts: each of its three events makes it show the state that the machine's definition gives, whatever
-//! state it shows before (`Shows` in `specs/Shows.antt`), with the definition's outcome. It is built for all
-//! three modes at once. What a call needs of the bus and leaves is one word, `IsReady`. Only `make` takes memory.
+//! It stands on `coherence` (main memory and the copies of lines in the caches), on `bus_agent` (what a hart has at the
+//! bus beside its cache), on the small parts `bus_order`, `mail`, `defer_list` and `policy`, and on the words of
+//! `el_model`. The bus has no state of its own in contracts: each of its three events makes it show the state that the
+//! machine's definition gives, whatever state it shows before (`Shows` in `specs/Shows.antt`), with the definition's
+//! outcome. It is built for all three modes at once. What a call needs of the bus and leaves is one word, `IsReady`.
+//! Only `make` takes memory.
 //!
 //! Of a hart's section the bus has the bits of its cache, and whether it is live or armed: an armed one is an acquire by
 //! `LR.W` and `SC.W` of which the `SC.W` has not come yet, and its instructions are counted ([`Bus::note_armed`]). A
@@ -17,8 +18,6 @@
 //! other source, its rule is this project's profile.
 #![tactic(auto)]
 
-mod agent;
-mod agents;
 mod asked;
 mod bus;
 mod delivering;
@@ -33,7 +32,6 @@ mod serving;
 mod settling;
 mod wanting;
 
-pub use agent::Agent;
 pub use asked::Asked;
 pub use bus::Bus;
 

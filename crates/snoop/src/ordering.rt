@@ -1,6 +1,7 @@
 //! A raised request takes its place in the order.
 
 ghost use Rattle.std.specs.Prelude.{◌≡◌, ◌<◌, None, Some, length};
+ghost use Rattle.bus_agent.specs.Agent.{agent_at};
 ghost use Rattle.bus_order.specs.Order.{numbered};
 ghost use Rattle.el_model.specs.Order.{
   Alone,
@@ -17,15 +18,14 @@ ghost use Rattle.el_model.specs.Order.{
   placed_last,
 };
 ghost use Rattle.el_model.specs.State.{ModelState};
-ghost use Rattle.snoop.specs.Agent.{agent_at};
 ghost use Rattle.snoop.specs.Deciding.{DecidesIn};
 ghost use Rattle.snoop.specs.Leaving.{EndsSections, LeavesCopies};
 ghost use Rattle.snoop.specs.Places.{definition_place};
 ghost use Rattle.snoop.specs.Shows.{IsReady, Shows, bus_state};
 
-use crate::agents::{post, unraise};
 use crate::bus::Bus;
 use crate::face::Met;
+use bus_agent::{post, unraise};
 use bus_order::Request;
 use el_base::{HartId, Mode, Need, Outcome};
 use mail::Message;

@@ -1,11 +1,11 @@
 //! Which events of a hart get something done at the bus.
 
 ghost use Rattle.std.specs.Prelude.{◌≡◌, ◌≢◌, ◌<◌, ◌↔◌, [], length, true};
+ghost use Rattle.bus_agent.specs.Agent.{agent_at};
 ghost use Rattle.bus_order.specs.Order.{numbered};
 ghost use Rattle.el_model.specs.Deliver.{deliver_turn};
 ghost use Rattle.el_model.specs.Serve.{Free, obstacle_to, serve_turn};
 ghost use Rattle.el_model.specs.State.{ModelState, hart_of, ordered_of};
-ghost use Rattle.snoop.specs.Agent.{agent_at};
 ghost use Rattle.snoop.specs.Readiness.{NothingBlocks, is_delivered, is_served};
 ghost use Rattle.snoop.specs.Shows.{IsReady, Shows, bus_state};
 

@@ -14,9 +14,9 @@ ghost use Rattle.snoop.specs.MainMemory.{lines_served};
 ghost use Rattle.snoop.specs.Serving.{CopiesServe, Serves};
 ghost use Rattle.snoop.specs.Shows.{IsReady, IsTold, Shows, bus_state, lent_copies};
 
-use crate::agents::{claim, forget};
 use crate::bus::Bus;
 use crate::face::Met;
+use bus_agent::{claim, forget};
 use bus_order::Request;
 use coherence::Hierarchy;
 use el_base::{HartId, LineAddr, Outcome};

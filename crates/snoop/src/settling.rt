@@ -5,32 +5,20 @@ ghost use Rattle.std.specs.Option.{option_map};
 ghost use Rattle.bus_order.specs.Order.{numbered};
 ghost use Rattle.el_base.specs.Losers.{beaten_by, losers_of};
 ghost use Rattle.el_model.specs.Face.{winner_in};
-ghost use Rattle.snoop.specs.Agent.{agent_at, agent_seeing, with_agent};
 ghost use Rattle.snoop.specs.Changing.{ClearsIf};
 ghost use Rattle.snoop.specs.Fates.{fate_in, numbered_fate};
 ghost use Rattle.snoop.specs.Settled.{AreSettledBelow, IsSettledAt, loses, marker_sent, markers_sent, stamp_seen};
 ghost use Rattle.snoop.specs.Shows.{IsReady, holding_of, bus_state};
 ghost use Rattle.stamp.specs.Stamps.{numbered_stamp};
 
-use crate::agent::Agent;
-use crate::agents::post;
 use crate::bus::Bus;
 use crate::fates::Fate;
+use bus_agent::{Agent, post, see};
 use bus_order::Request;
 use coherence::Hierarchy;
 use el_base::{HartId, Losers, Mode};
 use mail::Message;
 use stamp::Stamp;
-
-/// A hart sees a stamp, if there is one.
-fn see(agents: &mut Vec<Agent>, hart: HartId, stamp: Option<Stamp>)
-    ensures { agents.new.items ≡ with_agent agents.old.items hart.number
-        (agent_seeing (option_map numbered_stamp stamp) (agent_at agents.old.items hart.number)) }
-{
-    if let Some(agent) = agents.get_mut(usize::from(hart.number)) {
-        agent.see(stamp);
-    }
-}
 
 /// A loser's cache has no bits any more.
 fn clear_loser(hierarchy: &mut Hierarchy, hart: HartId, fate: Fate)

@@ -2,12 +2,12 @@
 //! open attempt with the clock 0, so a hart of a less number comes before one of a greater.
 
 ghost use Rattle.std.specs.Prelude.{◌≡◌, ◌<◌, ◌≤◌, ◌*◌, ℕ, IfOk, None, Some, length};
+ghost use Rattle.bus_agent.specs.Agent.{agent_at, with_agent};
 ghost use Rattle.bus_order.specs.Order.{numbered};
 ghost use Rattle.residency.specs.WellFormed.{IsWellFormed};
 ghost use Rattle.coherence.specs.Lent.{IsLentTo, Offers, slotted_at};
 ghost use Rattle.coherence.specs.Served.{IsCoherent, caches_of, shown_copies};
 ghost use Rattle.el_base.specs.Config.{IsInRange};
-ghost use Rattle.snoop.specs.Agent.{agent_at, with_agent};
 ghost use Rattle.snoop.specs.Shows.{IsReady, IsTold, has_room_in, bus_state};
 
 mod delivering;
@@ -19,9 +19,8 @@ mod readiness;
 mod serving;
 mod writing_back;
 
-use crate::agent::Agent;
-use crate::agents::take_message;
 use crate::bus::Bus;
+use bus_agent::{Agent, take_message};
 use bus_order::{Order, Request};
 use coherence::Hierarchy;
 use el_base::{Config, HartId, LineAddr, Mode, Need, Outcome, line_of};
@@ -151,7 +150,7 @@ fn read_in_section(memory: &mut Memory, hart: HartId) -> bool
 }
 
 /// Four agents, of which that of hart 1 was told of hart 0 where this says so.
-#[tactic(auto, using(crate::proofs::Standing::none_raised_more, crate::proofs::Standing::few_armed_more))]
+#[tactic(auto, using(bus_agent::proofs::Laws::Agents::none_raised_more, bus_agent::proofs::Laws::Agents::few_armed_more))]
 fn agents(alloc: Global, mode: Mode, told: bool) -> Result<Vec<Agent>, Fail>
     ensures none_raised { IfOk result (λ agents. (h : ℕ) → (agent_at agents.items h).raised ≡ None) }
     ensures few_armed { IfOk result (λ agents. (h : ℕ) → (agent_at agents.items h).armed ≤ 15) }

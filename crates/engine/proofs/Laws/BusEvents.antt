@@ -3,13 +3,12 @@ use Rattle.std.proofs.Common.{◌≡◌, ◌≢◌, ◌∙◌, ℕ, zero, suc, �
 use Rattle.std.proofs.Common.{length, refl, ap, sym, subst, arith}
 use Rattle.std.specs.Prelude.{◌==◌, IsSome, if◌then◌else◌, option_map, slice_index}
 use Rattle.std.proofs.lemmas.Bool.Decides.{nat_tests}
+use Rattle.el_base.specs.LetGo.{freed_of_outcome}
 use Rattle.residency.specs.Residency.{Way}
-use Rattle.el_base.specs.Freed.{count_in, order_of}
+use Rattle.el_base.specs.Freed.{count_in}
 use Rattle.el_base.specs.declared.events.Event.{Event}
 use Rattle.el_base.specs.declared.events.Kind.TheVariants as kinds
 use Rattle.el_base.specs.declared.freed.Freed.{Freed}
-use Rattle.el_model.proofs.Laws.BusEvents.{bus_events_are_told_once}
-use Rattle.el_model.specs.BusEvent.{freed_in}
 use Rattle.el_model.proofs.Laws.Restoring.{losers_restored}
 use Rattle.el_base.specs.Winners.{winner_over}
 use Rattle.el_model.specs.Losses.{restored, standing_of}
@@ -35,9 +34,8 @@ use Rattle.line_pool.specs.Pooled.{Pooled}
 use Rattle.policy.specs.Winners.{wins_of}
 use Rattle.run_laws.specs.PrivateRun.{IsChangeBeside, KeepsAllButViews}
 use Rattle.rv_alu.specs.declared.view.HartView.{HartView}
-use Rattle.rv_flat.proofs.Laws.Shapes.{keeps_run, span_kept}
+use Rattle.rv_flat.proofs.Laws.Shapes.{span_kept}
 use Rattle.rv_flat.specs.FlatState.{FlatState, view_of}
-use Rattle.rv_flat.specs.Laws.{KeepsShape}
 use Rattle.rv_flat.specs.Run.{alone}
 use Rattle.section_ctl.specs.State.{Reserved, SectionState, hold_in}
 use Rattle.section_view.proofs.Laws.Surviving.{kept_armed_survive, kept_survive, marks_stay}
@@ -47,7 +45,7 @@ use Rattle.snoop.specs.Shows.{BusState, Shows, Tells}
 use Rattle.stamp.specs.Stamps as stamps
 use Rattle.step_laws.proofs.Laws.Frames.{bus_events_keep}
 use Rattle.step_laws.specs.Frames.{LeavesPredictors}
-use Rattle.step_laws.specs.LettingGo.{LetsHartsGo, freed_of_outcome}
+use Rattle.step_laws.specs.LettingGo.{LetsHartsGo}
 use Rattle.step_laws.specs.Survivors.{Survives}
 use Rattle.write_hold.specs.Slotted.{IsLent}
 
@@ -56,7 +54,7 @@ pub bytes_kept : (state : ModelState) (event : Event) → IsReached state → ev
     KeepsBytes state.committed (next state event).state.committed
 bytes_kept state event reached bus =
     let memory = (lets_go state event reached bus).memory in
-    record { base = memory.base; bytes = memory.bytes }
+    record { base = memory.shape.base; bytes = memory.bytes }
 
 -- so the bus, which owes that to its caller, shows the state after it
 pub shown_after : (bus : BusState) (state : ModelState) (event : Event) (turn : Turn) → next state event ≡ turn →
@@ -93,10 +91,10 @@ kept_survives pool state new g section kept survives keeps = record {
 beside : (old new : FlatState) (g : ℕ) (cache : List (List Way)) → KeepsAllButViews old new →
     view_of new g ≡ view_of old g → IsChangeBeside g cache old new
 beside old new g cache keeps view = record {
-  base = keeps.base;
-  code = keeps.code;
-  size = ap length keeps.bytes;
-  harts = keeps.harts;
+  base = keeps.shape.base;
+  code = keeps.shape.code;
+  size = keeps.shape.length_of_bytes;
+  harts = keeps.shape.harts;
   view = view ∙ ap (λ reserved. record (view_of old g) { reserved = reserved }) (sym (ap (λ v. v.reserved) view));
   bytes = λ place bit. ap (λ bytes. slice_index bytes place) keeps.bytes;
 }
@@ -277,22 +275,18 @@ after_bus old mid new state event winner freed bus reached is mid_is new_is show
     subst (λ p. AreRestored p.config.mode winner (λ g. count_in freed g) p.harts new.harts) mid_is restored_mid in
     let keeps = bus_events_keep state event bus in
     let memory = (lets_go state event reached bus).memory in
-    let done = bus_events_are_told_once state event bus in
-    let shape : KeepsShape state.committed (next state event).state.committed =
-    subst (KeepsShape state.committed) (sym done.committed)
-    (keeps_run state.committed (order_of (freed_in state event.hart.number done.start))) in
     let config : new.config ≡ old.config = ap (λ p. p.config) new_is ∙ ap (λ p. p.config) mid_is in
     record {
       config = config ∙ is.config ∙ sym keeps.config;
       span =
           ap (λ p. p.span) new_is ∙ ap (λ p. p.span) mid_is ∙ is.span
-          ∙ sym (span_kept state.committed (next state event).state.committed shape);
+          ∙ sym (span_kept state.committed (next state event).state.committed memory.shape);
       shows = subst (λ b. Shows b (next state event).state) (sym (ap (λ p. p.bus) new_is)) shows;
       told =
           subst (λ b. Tells new.pool b (line_of (next state event).state.committed)) (sym (ap (λ p. p.bus) new_is))
           (told_left mid.pool new.pool mid.bus _ kept.caches told);
       one_each = restored.number ∙ is.one_each ∙ sym keeps.count;
-      view_each = restored.number ∙ is.view_each ∙ sym memory.harts;
+      view_each = restored.number ∙ is.view_each ∙ sym memory.shape.harts;
       harts = λ g below.
           let inside : g < length old.harts = subst (λ n. g < n) restored.number below in
           let left =
@@ -306,7 +300,7 @@ after_bus old mid new state event winner freed bus reached is mid_is new_is show
           (λ none. leaves_owner-then (hold_owner g) old.pool mid.pool new.pool (holds (hold_owner g) (omega arith))
           (kept.holds g none))
           (subst (λ (own : OwnState). IsLent new.pool own.section.hold) left (lent g below).lent));
-      code = ap (λ p. p.code) new_is ∙ ap (λ p. p.code) mid_is ∙ is.code ∙ sym memory.code;
+      code = ap (λ p. p.code) new_is ∙ ap (λ p. p.code) mid_is ∙ is.code ∙ sym memory.shape.code;
       output = ap (λ p. p.output) new_is ∙ ap (λ p. p.output) mid_is ∙ is.output ∙ sym memory.output;
     }
 

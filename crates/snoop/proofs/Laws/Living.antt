@@ -4,12 +4,12 @@ use Rattle.std.proofs.Common.{arith}
 use Rattle.std.proofs.lemmas.Bool.{not-true}
 use Rattle.std.proofs.lemmas.Bool.Decides.{nat_tests}
 use Rattle.std.proofs.Math.Bool.{and-false, and-true}
+use Rattle.bus_agent.specs.Agent.{agent_at}
 use Rattle.residency.specs.Cache.{cleared, has_marks}
 use Rattle.residency.specs.Residency.{Way}
 use Rattle.residency.proofs.Laws.Unmarked.{unmarked-cleared}
 use Rattle.el_model.specs.Plain.{armed_count}
 use Rattle.el_model.specs.State.{Hart, ModelState, hart_of, is_live, new_hart}
-use Rattle.snoop.specs.Agent.{agent_at}
 use Rattle.snoop.specs.Shows.{BusState, Shows, lives, lives_at}
 use Rattle.el_base.proofs.Laws.Tests.{number_of_test, second_of_both}
 

@@ -4,6 +4,7 @@ use Rattle.std.proofs.Common.{inl, inr, arith}
 use Rattle.std.specs.Prelude.{slice_set}
 use Rattle.std.proofs.lemmas.Bool.{cases_eq}
 use Rattle.std.proofs.lemmas.List.{get_or-set_other, get_or-set_same, length-set}
+use Rattle.bus_agent.specs.Agent.{agent_at, agent_of}
 use Rattle.bus_order.specs.Order.{Request, request_of}
 use Rattle.residency.specs.Cache.{has_marks, room_of, touched}
 use Rattle.cache_sets.specs.Cached.{Cached}
@@ -25,7 +26,6 @@ use Rattle.line_pool.specs.Pooled.{Pooled}
 use Rattle.moesi.specs.declared.letter.Letter.TheVariants.{M}
 use Rattle.rv_flat.specs.FlatState.{FlatState}
 use Rattle.snoop.proofs.Laws.Living.{TellsSection, tells}
-use Rattle.snoop.specs.Agent.{agent_at, agent_of}
 use Rattle.snoop.specs.Asking.{HasNoRequest}
 use Rattle.snoop.specs.Returned.{IsReturned, IsReturnedAs, returned, state_with}
 use Rattle.snoop.specs.Shows.{CanBeServed, IsReady, BusState, Shows, Tells, has_room_in, lent_copies, lives}

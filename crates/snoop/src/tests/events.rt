@@ -1,7 +1,7 @@
 //! Whole events of the bus, and what may be seen after them. A hart that is not there does nothing.
 
 ghost use Rattle.std.specs.Prelude.{◌≡◌, None};
-ghost use Rattle.snoop.specs.Agent.{agent_at, with_agent};
+ghost use Rattle.bus_agent.specs.Agent.{agent_at, with_agent};
 ghost use Rattle.snoop.specs.Shows.{IsTold, bus_state};
 
 use super::*;

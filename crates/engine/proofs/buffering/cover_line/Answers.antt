@@ -1,7 +1,7 @@
 -- the line gets the bit where it has it not
 use Rattle.std.proofs.Common.{◌∙◌, if◌then◌else◌, ap, sym}
 use Rattle.residency.specs.Cache.{marked}
-use Rattle.engine.proofs.Framed.{no_pool}
+use Rattle.line_pool.proofs.Laws.{no_pool}
 use Rattle.engine.proofs.buffering.cover_line.Goals as goal
 
 pub returns-then-not-is_covered : goal.returns-then-not-is_covered

@@ -1,7 +1,7 @@
 -- one hart more
 use Rattle.std.proofs.Common.{◌∙◌, ◌<◌, ◌==◌, if◌then◌else◌, length, ap, arith}
 use Rattle.std.specs.Prelude.{slice_set}
-use Rattle.engine.proofs.Framed.{no_pool}
+use Rattle.line_pool.proofs.Laws.{no_pool}
 use Rattle.engine.proofs.LostReservations.{unreserved_more}
 use Rattle.engine.proofs.others_reservations.unreserve_others.Goals as goal
 use Rattle.engine.specs.Parts.{own_at}

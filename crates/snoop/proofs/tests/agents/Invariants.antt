@@ -1,6 +1,6 @@
 -- no agent so far has raised a request, or is armed
 use Rattle.std.proofs.Common.{◌≡◌, ◌≤◌, ℕ, None}
-use Rattle.snoop.specs.Agent.{agent_at}
+use Rattle.bus_agent.specs.Agent.{agent_at}
 use Rattle.snoop.proofs.tests.agents.Given as goal
 
 abbrev pub invariant-loop-number : goal.invariant-loop-number

@@ -4,7 +4,7 @@ use Rattle.el_model.specs.InSection.{Commits, section_turn}
 use Rattle.el_model.specs.State.{ModelState, Section}
 use Rattle.engine.proofs.CommittedParts.{CommitsAt, IsBeforeCommit, can_count, commits_in, commits_over, counted}
 use Rattle.engine.proofs.CommittedParts.{is_live_there, may_take_effect, ready_then}
-use Rattle.engine.proofs.Framed.{no_pool}
+use Rattle.line_pool.proofs.Laws.{no_pool}
 use Rattle.engine.proofs.RolledBack.{clock_small, seen_small}
 use Rattle.engine.proofs.engine.Engine.commit.Goals as goal
 use Rattle.engine.specs.Acting.{freed}

@@ -4,7 +4,7 @@ use Rattle.cache_sets.specs.Slotted.{Slotted}
 use Rattle.coherence.proofs.Laws.RoomLaws.{resident_after_mark}
 use Rattle.residency.specs.Cache.{is_resident, touched}
 use Rattle.el_base.specs.declared.outcomes.Need.TheVariants.{Read}
-use Rattle.engine.proofs.Framed.{no_pool}
+use Rattle.line_pool.proofs.Laws.{no_pool}
 use Rattle.engine.proofs.engine.Engine.mark_read.Goals as goal
 use Rattle.engine.specs.Beginning.{IsReadMarked}
 

@@ -1,11 +1,11 @@
 -- the losers had sections and the freed were armed, and the parts are those after the event
 use Rattle.std.proofs.Common.{◌∙◌, ◌≤◌, ap, refl, subst, sym}
 use Rattle.el_base.specs.Freed.{count_in}
+use Rattle.el_base.specs.LetGo.{freed_of_outcome}
 use Rattle.el_base.specs.Winners.{winner_over}
 use Rattle.engine.proofs.Laws.BusEvents.{after_bus, had_section, holds_lent, was_armed}
 use Rattle.engine.proofs.engine.Engine.on_bus.Goals as goal
 use Rattle.engine.specs.Parts.{parts}
-use Rattle.step_laws.specs.LettingGo.{freed_of_outcome}
 
 pub restore_by-requires-clause-live : goal.restore_by-requires-clause-live
 restore_by-requires-clause-live c g winner inside named =

@@ -1,11 +1,11 @@
 -- an attempt has closed
 use Rattle.std.proofs.Common.{◌∙◌, ap, refl}
+use Rattle.bus_agent.proofs.Laws.Attempts.{closed_agent}
+use Rattle.bus_agent.specs.Agent.{agent_closed, agent_at}
 use Rattle.el_model.specs.Attempts.{close_attempt}
 use Rattle.el_model.specs.State.{hart_of}
 use Rattle.snoop.proofs.OneAgent.{leaves_agent}
-use Rattle.snoop.proofs.Showing.{closed_agent}
 use Rattle.snoop.proofs.bus.Bus.close_attempt.Goals as goal
-use Rattle.snoop.specs.Agent.{agent_closed, agent_at}
 use Rattle.snoop.specs.Shows.{bus_state}
 
 pub returns : goal.returns

@@ -1,9 +1,9 @@
 -- a hart holds no line
 use Rattle.std.proofs.Common.{None, ap, refl}
+use Rattle.bus_agent.specs.Agent.{Agent, agent_at}
 use Rattle.el_model.specs.State.{hart_of}
 use Rattle.snoop.proofs.OneAgent.{leaves_agent}
 use Rattle.snoop.proofs.bus.Bus.give_up.Goals as goal
-use Rattle.snoop.specs.Agent.{Agent, agent_at}
 use Rattle.snoop.specs.Shows.{bus_state}
 
 pub returns : goal.returns

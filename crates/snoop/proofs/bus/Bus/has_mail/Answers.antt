@@ -1,11 +1,11 @@
 -- the hart's mail is the definition's
 use Rattle.std.proofs.Common.{◌≡◌, ◌≢◌, ◌∙◌, [], ap, subst, sym, true}
 use Rattle.std.specs.Prelude.{◌↔◌, ◌==◌, length, not}
+use Rattle.bus_agent.specs.Agent.{agent_at}
 use Rattle.el_model.specs.Deliver as delivery
 use Rattle.el_model.specs.State.{hart_of}
 use Rattle.snoop.proofs.GetsOn.{mail_delivered, mail_there}
 use Rattle.snoop.proofs.bus.Bus.has_mail.Goals as goal
-use Rattle.snoop.specs.Agent.{agent_at}
 use Rattle.snoop.specs.Shows.{bus_state}
 
 pub returns-clause-exact : goal.returns-clause-exact

@@ -1,9 +1,9 @@
 -- a hart is noted as armed
 use Rattle.std.proofs.Common.{refl}
+use Rattle.bus_agent.specs.Agent.{agent_at, agent_noted}
 use Rattle.snoop.proofs.Noting.{noted_shows}
 use Rattle.snoop.proofs.Ready.{ready_agent}
 use Rattle.snoop.proofs.bus.Bus.note_armed.Goals as goal
-use Rattle.snoop.specs.Agent.{agent_at, agent_noted}
 use Rattle.snoop.specs.Shows.{bus_state}
 
 pub returns : goal.returns

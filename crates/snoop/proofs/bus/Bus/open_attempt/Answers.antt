@@ -1,10 +1,10 @@
 -- an attempt is open
 use Rattle.std.proofs.Common.{◌∙◌, ap, refl}
+use Rattle.bus_agent.specs.Agent.{agent_at, agent_of, agent_opened}
 use Rattle.el_model.specs.Attempts.{open_attempt}
 use Rattle.el_model.specs.State.{hart_of}
 use Rattle.snoop.proofs.OneAgent.{leaves_agent}
 use Rattle.snoop.proofs.bus.Bus.open_attempt.Goals as goal
-use Rattle.snoop.specs.Agent.{agent_at, agent_of, agent_opened}
 use Rattle.snoop.specs.Shows.{bus_state}
 
 pub returns : goal.returns

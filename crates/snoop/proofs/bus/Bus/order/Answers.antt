@@ -1,8 +1,8 @@
 -- the request that a hart has raised is its own
 use Rattle.std.proofs.Common.{◌≡◌, Some, subst, sym}
+use Rattle.bus_agent.specs.Agent.{agent_at}
 use Rattle.bus_order.specs.Order.{numbered}
 use Rattle.snoop.proofs.bus.Bus.order.Goals as goal
-use Rattle.snoop.specs.Agent.{agent_at}
 use Rattle.snoop.specs.Shows.{bus_state}
 
 pub place-requires-clause-raised : goal.place-requires-clause-raised

@@ -1,5 +1,5 @@
 use Rattle.std.proofs.Common.{◌≡◌, ◌+◌, ℕ, suc, arith, subst}
-use Rattle.snoop.specs.Agent.{agent_at}
+use Rattle.bus_agent.specs.Agent.{agent_at}
 use Rattle.snoop.specs.Delivering.{passes, probe_sent}
 use Rattle.snoop.specs.Shows.{bus_state}
 use Rattle.snoop.proofs.Delivers.{PassesOn, one_passed}

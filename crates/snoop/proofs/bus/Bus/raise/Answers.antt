@@ -1,9 +1,9 @@
 -- a hart has raised a request
 use Rattle.std.proofs.Common.{refl}
+use Rattle.bus_agent.specs.Agent.{agent_at}
 use Rattle.bus_order.specs.Order.{Request}
 use Rattle.snoop.proofs.Raising.{ready_raised, shows_raised}
 use Rattle.snoop.proofs.bus.Bus.raise.Goals as goal
-use Rattle.snoop.specs.Agent.{agent_at}
 use Rattle.snoop.specs.Shows.{bus_state}
 
 pub returns : goal.returns

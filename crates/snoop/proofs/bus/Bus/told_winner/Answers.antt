@@ -1,6 +1,6 @@
 -- one origin before those that were looked at, and all of them
 use Rattle.std.proofs.Common.{◌≡◌, ◌∙◌, ◌<◌, ◌-◌, ap, arith, drop, length}
-use Rattle.snoop.specs.Agent.{agent_at}
+use Rattle.bus_agent.specs.Agent.{agent_at}
 use Rattle.snoop.specs.Fates.{told_from}
 use Rattle.snoop.specs.Shows.{bus_state}
 use Rattle.snoop.proofs.Facing.{told_before, winner_is_told}

@@ -1,6 +1,6 @@
 -- the earliest of the origins from the number on
 use Rattle.std.proofs.Common.{◌≡◌, ◌≤◌, drop, length}
-use Rattle.snoop.specs.Agent.{agent_at}
+use Rattle.bus_agent.specs.Agent.{agent_at}
 use Rattle.snoop.specs.Fates.{number_of, told_from}
 use Rattle.snoop.proofs.bus.Bus.told_winner.Given as goal
 

@@ -1,8 +1,8 @@
 -- one agent after another becomes what is said of its number
 use Rattle.std.proofs.Common.{◌≡◌, ◌∙◌, ◌<◌, ◌≤◌, ℕ, suc, List, length, arith, refl, sym, ap, inl, inr}
 use Rattle.std.proofs.lemmas.Bool.{cases_eq}
-use Rattle.snoop.specs.Agent.{Agent, agent_at, with_agent}
-use Rattle.snoop.proofs.Showing.{agent_other, agent_same, count_with_agent}
+use Rattle.bus_agent.proofs.Laws.Agents.{agent_other, agent_same, count_with_agent}
+use Rattle.bus_agent.specs.Agent.{Agent, agent_at, with_agent}
 
 -- those below a number have, and the others are as they were
 pub record AreChangedBelow (becomes : ℕ → Agent → Agent) (number : ℕ) (old new : List Agent) : Type 0 where

@@ -1,8 +1,8 @@
 -- the harts so far have the probe, if they are to
-use Rattle.snoop.specs.Agent.{agent_at}
-use Rattle.snoop.specs.Delivering.{agent_forwarded}
-use Rattle.snoop.proofs.EachAgent.{AreChangedBelow}
-use Rattle.snoop.proofs.delivering.forward_all.Given as goal
+use Rattle.bus_agent.proofs.EachAgent.{AreChangedBelow}
+use Rattle.bus_agent.proofs.forwarding.forward_all.Given as goal
+use Rattle.bus_agent.specs.Agent.{agent_at}
+use Rattle.bus_agent.specs.Forwarding.{agent_forwarded}
 
 abbrev pub invariant-loop-number : goal.invariant-loop-number
 invariant-loop-number l =

@@ -2,12 +2,7 @@
 
 ghost use Rattle.std.specs.Prelude.{◌≡◌, ◌<◌, ◌==◌, IfOk, None, Some, length, not, slice_get};
 ghost use Rattle.std.specs.Option.{option_map};
-ghost use Rattle.bus_order.specs.Order as order;
-ghost use Rattle.defer_list.specs.HartSet.{has};
-ghost use Rattle.el_model.specs.State.{is_held};
-ghost use Rattle.mail.specs.Mailbox as mailbox;
-ghost use Rattle.stamp.specs.Stamps.{numbered_stamp};
-ghost use Rattle.snoop.specs.Agent.{
+ghost use Rattle.bus_agent.specs.Agent.{
   agent_behind,
   agent_closed,
   agent_forgetting,
@@ -20,6 +15,11 @@ ghost use Rattle.snoop.specs.Agent.{
   agent_told,
   new_agent,
 };
+ghost use Rattle.bus_order.specs.Order as order;
+ghost use Rattle.defer_list.specs.HartSet.{has};
+ghost use Rattle.el_model.specs.State.{is_held};
+ghost use Rattle.mail.specs.Mailbox as mailbox;
+ghost use Rattle.stamp.specs.Stamps.{numbered_stamp};
 
 use bus_order::Request;
 use defer_list::Told;
@@ -56,7 +56,7 @@ impl Model for Agent {
     ghost use Rattle.std.specs.Option.{option_map};
     ghost use Rattle.bus_order.specs.Order.{numbered};
     ghost use Rattle.stamp.specs.Stamps.{numbered_stamp};
-    ghost use Rattle.snoop.specs.Agent as definition;
+    ghost use Rattle.bus_agent.specs.Agent as definition;
 
     ghost Value = { definition.Agent };
 

@@ -1,5 +1,5 @@
 -- a hart's agent at the bus
-use Rattle.std.specs.Prelude.{ℕ, List, [], Option, None, Some, slice_index_or, slice_set}
+use Rattle.std.specs.Prelude.{ℕ, Bool, false, true, List, [], Option, None, Some, slice_index_or, slice_set}
 use Rattle.bus_order.specs.Order.{Request}
 use Rattle.defer_list.specs.HartSet.{excluded, included}
 use Rattle.el_base.specs.declared.config.Mode.{Mode}
@@ -75,6 +75,11 @@ agent_forgetting origin agent =
 abbrev pub agent_served : Agent → Agent
 agent_served agent = record agent { mail = without_markers agent.mail; upstream = [] }
 
+-- a hart without a live section holds the line that it was served; one with a live section has a bit instead
+abbrev pub agent_claiming : Bool → ℕ → Agent → Agent
+agent_claiming true line agent = agent
+agent_claiming false line agent = record agent { held_line = Some line }
+
 -- an agent that was told of an origin, and one that knows of a hart before it
 abbrev pub agent_told : ℕ → Agent → Agent
 agent_told origin agent = record agent { told = included agent.told origin }
@@ -85,6 +90,10 @@ agent_behind sender agent = record agent { upstream = included agent.upstream se
 -- an agent that has seen a stamp, if there is one
 abbrev pub agent_seeing : Option Stamp → Agent → Agent
 agent_seeing stamp agent = record agent { seen = seen_after agent.seen stamp }
+
+-- a hart was told of an origin and has seen a stamp, if there is one
+abbrev pub agent_heard : ℕ → Option Stamp → Agent → Agent
+agent_heard origin stamp agent = agent_seeing stamp (agent_told origin agent)
 
 -- an agent whose attempt is open, and one whose attempt is closed
 abbrev pub agent_opened : Mode → ℕ → Agent → Agent

@@ -3,12 +3,12 @@ use Rattle.std.proofs.Common.{◌≡◌, ◌∙◌, ◌<◌, ◌==◌, ◌&&◌,
 use Rattle.std.proofs.Common.{inr, if◌then◌else◌}
 use Rattle.std.proofs.lemmas.Bool.{cases_lt}
 use Rattle.std.proofs.lemmas.List.{set-get_or}
+use Rattle.bus_agent.proofs.EachAgent.{AreChangedBelow, one_changed}
+use Rattle.bus_agent.specs.Agent.{Agent, agent_at, agent_posted, new_agent, with_agent}
+use Rattle.bus_agent.specs.Forwarding.{AreForwarded, agent_forwarded}
 use Rattle.defer_list.specs.HartSet.{has}
 use Rattle.el_model.proofs.Laws.Tests.{by_test}
 use Rattle.mail.specs.Mailbox.{Probe}
-use Rattle.snoop.specs.Agent.{Agent, agent_at, agent_posted, new_agent, with_agent}
-use Rattle.snoop.specs.Delivering.{AreForwarded, agent_forwarded}
-use Rattle.snoop.proofs.EachAgent.{AreChangedBelow, one_changed}
 
 -- it stays where it was
 pub not_forwarded : (agents : List Agent) (upstream : List ℕ) (origin g : ℕ) →

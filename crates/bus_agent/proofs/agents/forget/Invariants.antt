@@ -1,7 +1,7 @@
 -- the harts so far have forgotten the origin's request
-use Rattle.snoop.specs.Agent.{agent_forgetting}
-use Rattle.snoop.proofs.EachAgent.{AreChangedBelow}
-use Rattle.snoop.proofs.agents.forget.Given as goal
+use Rattle.bus_agent.proofs.EachAgent.{AreChangedBelow}
+use Rattle.bus_agent.proofs.agents.forget.Given as goal
+use Rattle.bus_agent.specs.Agent.{agent_forgetting}
 
 abbrev pub invariant-loop-number : goal.invariant-loop-number
 invariant-loop-number l =

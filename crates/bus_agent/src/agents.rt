@@ -1,25 +1,26 @@
-//! One of the agents of all harts is changed, or each of them. `post` and `unraise` change none where the hart is
-//! not there; the other calls need it.
+//! One of the agents of all harts is changed, or each of them. `post`, `unraise` and `see` change none where the hart
+//! is not there; the other calls need it.
 
 ghost use Rattle.std.specs.Prelude.{◌≡◌, ◌<◌, ℕ, IfOk, None, Some, length, replicate};
 ghost use Rattle.std.specs.Option.{option_map};
-ghost use Rattle.bus_order.specs.Order as order;
-ghost use Rattle.mail.specs.Mailbox.{numbered, oldest};
-ghost use Rattle.snoop.specs.Agent.{
+ghost use Rattle.bus_agent.specs.Agent.{
   agent_at,
   agent_behind,
+  agent_claiming,
   agent_closed,
   agent_forgetting,
+  agent_heard,
   agent_noted,
   agent_opened,
   agent_posted,
+  agent_seeing,
   agent_served,
   agent_taken,
   new_agent,
   with_agent,
 };
-ghost use Rattle.snoop.specs.Delivering.{agent_heard};
-ghost use Rattle.snoop.specs.Serving.{agent_claiming};
+ghost use Rattle.bus_order.specs.Order as order;
+ghost use Rattle.mail.specs.Mailbox.{numbered, oldest};
 ghost use Rattle.stamp.specs.Stamps.{numbered_stamp};
 
 use crate::agent::Agent;
@@ -29,7 +30,7 @@ use mail::Message;
 use stamp::Stamp;
 use std::alloc::Global;
 
-/// The agents of so many harts that have asked for nothing yet.
+/// The agents of so many harts that have asked for nothing yet, as they are before the first event.
 pub fn new_agents(alloc: Global, harts: u8) -> Result<Vec<Agent>, NoMemory>
     ensures { IfOk result (λ agents. agents.items ≡ replicate harts new_agent) }
 {
@@ -40,7 +41,7 @@ pub fn new_agents(alloc: Global, harts: u8) -> Result<Vec<Agent>, NoMemory>
     Ok(agents)
 }
 
-/// The hart of a request raises it.
+/// The hart of a request raises it, as a step of it misses its line.
 pub fn raise(agents: &mut Vec<Agent>, request: Request)
     requires { request.hart.number < length agents.old.items }
     ensures { agents.new.items ≡ with_agent agents.old.items request.hart.number
@@ -50,7 +51,7 @@ pub fn raise(agents: &mut Vec<Agent>, request: Request)
     agent.raise(request);
 }
 
-/// A hart holds no line any more.
+/// A hart holds no line any more, as it takes its next step.
 pub fn give_up(agents: &mut Vec<Agent>, hart: HartId)
     requires { hart.number < length agents.old.items }
     ensures { agents.new.items ≡
@@ -102,7 +103,7 @@ pub fn post(agents: &mut Vec<Agent>, to: HartId, message: Message)
     }
 }
 
-/// All harts forget what came with an origin's request.
+/// All harts forget what came with an origin's request, as that is served.
 #[tactic(auto, using(crate::proofs::EachAgent::none_changed, crate::proofs::EachAgent::one_changed))]
 pub fn forget(agents: &mut Vec<Agent>, origin: HartId)
     ensures count { length agents.new.items ≡ length agents.old.items }
@@ -129,7 +130,7 @@ pub fn claim(agents: &mut Vec<Agent>, request: Request, live: bool)
     }
 }
 
-/// A hart has no raised request any more.
+/// A hart has no raised request any more, as that takes its place in the order.
 pub fn unraise(agents: &mut Vec<Agent>, hart: HartId)
     ensures { agents.new.items ≡
         with_agent agents.old.items hart.number (record (agent_at agents.old.items hart.number) { raised = None }) }
@@ -139,7 +140,7 @@ pub fn unraise(agents: &mut Vec<Agent>, hart: HartId)
     }
 }
 
-/// The oldest message is taken out of the mailbox of a hart.
+/// The oldest message is taken out of the mailbox of a hart; `None` comes where that is empty.
 pub fn take_message(agents: &mut Vec<Agent>, hart: HartId) -> Option<Message>
     requires { hart.number < length agents.old.items }
     ensures oldest { option_map numbered result ≡ oldest (agent_at agents.old.items hart.number).mail }
@@ -150,7 +151,7 @@ pub fn take_message(agents: &mut Vec<Agent>, hart: HartId) -> Option<Message>
     agent.next()
 }
 
-/// A hart knows from now on that another is before it.
+/// A hart knows from now on that another is before it, as it takes the marker of that one.
 pub fn come_behind(agents: &mut Vec<Agent>, hart: HartId, other: HartId)
     requires { hart.number < length agents.old.items }
     ensures { agents.new.items ≡
@@ -169,4 +170,14 @@ pub fn hear(agents: &mut Vec<Agent>, hart: HartId, origin: HartId, stamp: Option
     let agent = &mut agents[usize::from(hart.number)];
     agent.tell(origin);
     agent.see(stamp);
+}
+
+/// A hart sees a stamp, if there is one.
+pub fn see(agents: &mut Vec<Agent>, hart: HartId, stamp: Option<Stamp>)
+    ensures { agents.new.items ≡ with_agent agents.old.items hart.number
+        (agent_seeing (option_map numbered_stamp stamp) (agent_at agents.old.items hart.number)) }
+{
+    if let Some(agent) = agents.get_mut(usize::from(hart.number)) {
+        agent.see(stamp);
+    }
 }

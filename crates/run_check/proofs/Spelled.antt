@@ -41,26 +41,26 @@ use Rattle.run_check.proofs.RulesSame.{line_below, same_count_rule, same_hart_ru
 -- ---- what stands at a place
 
 -- these bytes stand at a place of the file, and others may follow
-pub record StandsAt (file : List ℕ) (place : ℕ) (bytes : List ℕ) : Type 0 where
+pub record BytesAt (file : List ℕ) (place : ℕ) (bytes : List ℕ) : Type 0 where
   pub rest : List ℕ
   pub is : drop place file ≡ bytes ++ rest
 
-byte_of : {file : List ℕ} {place byte : ℕ} {more : List ℕ} → StandsAt file place (byte ∷ more) →
+byte_of : {file : List ℕ} {place byte : ℕ} {more : List ℕ} → BytesAt file place (byte ∷ more) →
     get_or file place 0 ≡ byte
 byte_of {file} {place} {byte} {more} s =
     let here : place + 0 ≡ place = omega arith in
     ap (λ (n : ℕ). get_or file n 0) (sym here) ∙ sym (get_or-drop place file 0 0)
     ∙ ap (λ (l : List ℕ). get_or l 0 0) s.is
 
-number_of : {file : List ℕ} {place n : ℕ} {more : List ℕ} → StandsAt file place (little_bytes 4 n ++ more) →
+number_of : {file : List ℕ} {place n : ℕ} {more : List ℕ} → BytesAt file place (little_bytes 4 n ++ more) →
     n < 4294967296 → number_at file place ≡ n
 number_of {file} {place} {n} {more} s small =
     ap (λ (l : List ℕ). number_at l 0) (s.is ∙ append_assoc (little_bytes 4 n) more s.rest)
     ∙ little_number-reads_back 4 n (more ++ s.rest) small
 
 -- what stands behind a part of so many bytes
-behind : {file : List ℕ} {place : ℕ} (first more : List ℕ) (len end : ℕ) → StandsAt file place (first ++ more) →
-    length first ≡ len → place + len ≡ end → StandsAt file end more
+behind : {file : List ℕ} {place : ℕ} (first more : List ℕ) (len end : ℕ) → BytesAt file place (first ++ more) →
+    length first ≡ len → place + len ≡ end → BytesAt file end more
 behind {file} {place} first more len end s long is = record {
   rest = s.rest;
   is =
@@ -71,7 +71,7 @@ behind {file} {place} first more len end s long is = record {
 }
 
 -- some bytes that stand at a place are inside of the file
-inside : {file : List ℕ} {place : ℕ} {bytes : List ℕ} → StandsAt file place bytes → 1 ≤ length bytes →
+inside : {file : List ℕ} {place : ℕ} {bytes : List ℕ} → BytesAt file place bytes → 1 ≤ length bytes →
     place + length bytes ≤ length file
 inside {file} {place} {bytes} s some =
     let long : length file - place ≡ length bytes + length s.rest =
@@ -120,7 +120,7 @@ small_of c is =
     record { stretches = omega (arith, e.0, e.1); output = is.output; lines = is.few_lines }
 
 -- where things stand in a spelling
-pub record Parts (c : Content) (file : List ℕ) : Type 0 where
+pub record SpelledPlaces (c : Content) (file : List ℕ) : Type 0 where
   pub harts : harts_of file ≡ c.harts
   pub count : stretch_count file ≡ length c.stretches
   pub stretches : drop 10 file ≡ stretches_part c
@@ -174,14 +174,14 @@ patch_size c is i within =
       is.line_bytes i within,
     )
 
-parts : (c : Content) → IsCertificate c → Parts c (spelling c)
+parts : (c : Content) → IsCertificate c → SpelledPlaces c (spelling c)
 parts c is =
     let file = spelling c in
     let small = small_of c is in
     let few = small.stretches in
     let written = small.output in
     let changed = small.lines in
-    let s-count : StandsAt file 6 (little_bytes 4 (length c.stretches) ++ stretches_part c) =
+    let s-count : BytesAt file 6 (little_bytes 4 (length c.stretches) ++ stretches_part c) =
     record { rest = []; is = sym (append-nil _) } in
     let count : stretch_count file ≡ length c.stretches = number_of s-count (omega arith) in
     let v-place : 10 + 5 * length c.stretches ≡ view_place file 0 = omega (arith, count) in
@@ -198,7 +198,7 @@ parts c is =
     ∙ behind_all view_bytes 138 c.views (output_part c) no_hart
     (λ i within. view_size (get_or c.views i no_hart) (is.views i within))
     in
-    let s-output : StandsAt file (output_place file) (little_bytes 4 (length c.output) ++ (c.output ++ lines_part c)) =
+    let s-output : BytesAt file (output_place file) (little_bytes 4 (length c.output) ++ (c.output ++ lines_part c)) =
     record {
       rest = [];
       is =
@@ -215,7 +215,7 @@ parts c is =
     ∙ ap (drop (4 + length c.output)) output
     ∙ drop_at (output_bytes c.output) (lines_part c) (4 + length c.output) o-long
     in
-    let s-lines : StandsAt file (lines_place file) (little_bytes 4 (length c.lines) ++ flat_map patch_bytes c.lines) =
+    let s-lines : BytesAt file (lines_place file) (little_bytes 4 (length c.lines) ++ flat_map patch_bytes c.lines) =
     record { rest = []; is = lines ∙ sym (append-nil _) }
     in
     record {
@@ -233,7 +233,7 @@ parts c is =
 -- ---- each item is read as what it is
 
 stretch_stands : (c : Content) (k : ℕ) → k < length c.stretches →
-    StandsAt (spelling c) (stretch_place k) (stretch_bytes
+    BytesAt (spelling c) (stretch_place k) (stretch_bytes
     (get_or c.stretches k (record { hart = hart_id 0; count = 0 })))
 stretch_stands c k within = record {
   rest = flat_map stretch_bytes (drop (suc k) c.stretches) ++ views_part c;
@@ -243,8 +243,8 @@ stretch_stands c k within = record {
       (stretch_size c) within;
 }
 
-view_stands : (c : Content) → IsCertificate c → Parts c (spelling c) → (k : ℕ) → k < length c.views →
-    StandsAt (spelling c) (view_place (spelling c) k) (view_bytes (get_or c.views k no_hart))
+view_stands : (c : Content) → IsCertificate c → SpelledPlaces c (spelling c) → (k : ℕ) → k < length c.views →
+    BytesAt (spelling c) (view_place (spelling c) k) (view_bytes (get_or c.views k no_hart))
 view_stands c is p k within = record {
   rest = flat_map view_bytes (drop (suc k) c.views) ++ output_part c;
   is =
@@ -256,8 +256,8 @@ view_stands c is p k within = record {
       (λ i low. view_size (get_or c.views i no_hart) (is.views i low)) within;
 }
 
-line_stands : (c : Content) → IsCertificate c → Parts c (spelling c) → (k : ℕ) → k < length c.lines →
-    StandsAt (spelling c) (line_place (lines_place (spelling c)) k) (patch_bytes (patch_in c.lines k))
+line_stands : (c : Content) → IsCertificate c → SpelledPlaces c (spelling c) → (k : ℕ) → k < length c.lines →
+    BytesAt (spelling c) (line_place (lines_place (spelling c)) k) (patch_bytes (patch_in c.lines k))
 line_stands c is p k within =
     let file = spelling c in
     let place = lines_place file in
@@ -282,7 +282,7 @@ count_is c is k within =
     let s = stretch_stands c k within in
     let count = count_in c.stretches k in
     let few = (count_right (count_in c.stretches) k (is.counts k within)).1 in
-    let here : StandsAt (spelling c) (stretch_place k + 1) (little_bytes 4 count ++ []) =
+    let here : BytesAt (spelling c) (stretch_place k + 1) (little_bytes 4 count ++ []) =
     behind (hart_in c.stretches k ∷ []) (little_bytes 4 count ++ []) 1 (stretch_place k + 1)
     (record {
       rest = s.rest;
@@ -293,13 +293,13 @@ count_is c is k within =
     in
     number_of here (omega arith)
 
-line_is : (c : Content) → IsCertificate c → Parts c (spelling c) → (k : ℕ) → k < length c.lines →
+line_is : (c : Content) → IsCertificate c → SpelledPlaces c (spelling c) → (k : ℕ) → k < length c.lines →
     line_at (spelling c) (lines_place (spelling c)) k ≡ line_in c.lines k
 line_is c is p k within =
     let low = line_below (line_in c.lines) k (is.lines k within) in
     number_of (line_stands c is p k within) (omega arith)
 
-line_bytes_are : (c : Content) → IsCertificate c → Parts c (spelling c) → (k : ℕ) → k < length c.lines →
+line_bytes_are : (c : Content) → IsCertificate c → SpelledPlaces c (spelling c) → (k : ℕ) → k < length c.lines →
     take 64 (drop (line_place (lines_place (spelling c)) k + 4) (spelling c)) ≡ (patch_in c.lines k).bytes
 line_bytes_are c is p k within =
     let place = line_place (lines_place (spelling c)) k in
@@ -312,16 +312,16 @@ line_bytes_are c is p k within =
 
 -- the parts of a view that stands at a place
 record ViewStands (file : List ℕ) (place : ℕ) (view : HartView) : Type 0 where
-  pc : StandsAt file place (little_bytes 4 view.pc ++ [])
-  words : StandsAt file (place + 4) (flat_map (little_bytes 4) (drop 1 view.regs))
-  reserved : StandsAt file (place + 128) (reserved_bytes view.reserved)
-  status : StandsAt file (place + 133) (status_bytes view.status)
+  pc : BytesAt file place (little_bytes 4 view.pc ++ [])
+  words : BytesAt file (place + 4) (flat_map (little_bytes 4) (drop 1 view.regs))
+  reserved : BytesAt file (place + 128) (reserved_bytes view.reserved)
+  status : BytesAt file (place + 133) (status_bytes view.status)
 
-front : {file : List ℕ} {place : ℕ} (first more : List ℕ) → StandsAt file place (first ++ more) →
-    StandsAt file place first
+front : {file : List ℕ} {place : ℕ} (first more : List ℕ) → BytesAt file place (first ++ more) →
+    BytesAt file place first
 front first more s = record { rest = more ++ s.rest; is = s.is ∙ append_assoc first more s.rest }
 
-view_parts : (file : List ℕ) (place : ℕ) (view : HartView) → IsView view → StandsAt file place (view_bytes view) →
+view_parts : (file : List ℕ) (place : ℕ) (view : HartView) → IsView view → BytesAt file place (view_bytes view) →
     ViewStands file place view
 view_parts file place view is s =
     let words = flat_map (little_bytes 4) (drop 1 view.regs) in
@@ -346,10 +346,10 @@ view_parts file place view is s =
       status = s3;
     }
 
-word_is : (file : List ℕ) (place : ℕ) (words : List ℕ) (k : ℕ) → StandsAt file place (flat_map (little_bytes 4) words) →
+word_is : (file : List ℕ) (place : ℕ) (words : List ℕ) (k : ℕ) → BytesAt file place (flat_map (little_bytes 4) words) →
     k < length words → get_or words k 0 < 4294967296 → number_at file (place + 4 * k) ≡ get_or words k 0
 word_is file place words k s within small =
-    let here : StandsAt file (place + 4 * k) (little_bytes 4 (get_or words k 0)
+    let here : BytesAt file (place + 4 * k) (little_bytes 4 (get_or words k 0)
     ++ (flat_map (little_bytes 4) (drop (suc k) words) ++ s.rest)) = record {
       rest = [];
       is =
@@ -380,7 +380,7 @@ record FlagAndWord (file : List ℕ) (place next first number : ℕ) : Type 0 wh
   word : number_at file next ≡ number
 
 flag_and_word : (file : List ℕ) (place next flag word : ℕ) → place + 1 ≡ next →
-    StandsAt file place (flag ∷ little_bytes 4 word) → word < 4294967296 → FlagAndWord file place next flag word
+    BytesAt file place (flag ∷ little_bytes 4 word) → word < 4294967296 → FlagAndWord file place next flag word
 flag_and_word file place next flag word is s small = record {
   flag = byte_of s;
   word =
@@ -396,7 +396,7 @@ flag_and_word file place next flag word is s small = record {
 }
 
 reserved_is : (file : List ℕ) (place next : ℕ) (reserved : Option ℕ) → place + 1 ≡ next → IsReserved reserved →
-    StandsAt file place (reserved_bytes reserved) → (reserved_at (get_or file place 0) (number_at file next) ≡ reserved)
+    BytesAt file place (reserved_bytes reserved) → (reserved_at (get_or file place 0) (number_at file next) ≡ reserved)
     × (reservation_wrong (get_or file place 0) (number_at file next) ≡ false)
 reserved_is file place next None there is s =
     let e = flag_and_word file place next 0 0 there s (omega arith) in
@@ -406,7 +406,7 @@ reserved_is file place next (Some word) there is s =
     rw (e.flag, e.word) (refl, refl)
 
 status_is : (file : List ℕ) (place next pc : ℕ) (status : HartStatus) → place + 1 ≡ next → IsStatus pc status →
-    StandsAt file place (status_bytes status) → (status_at (get_or file place 0) (number_at file next) pc ≡ status)
+    BytesAt file place (status_bytes status) → (status_at (get_or file place 0) (number_at file next) pc ≡ status)
     × (status_wrong (get_or file place 0) (number_at file next) ≡ false)
 status_is file place next pc Running there is s =
     let e = flag_and_word file place next 0 0 there s (omega arith) in
@@ -423,7 +423,7 @@ status_is file place next pc (Trapped cause at) there is s =
 abbrev view_of_parts : ℕ → List ℕ → Option ℕ → HartStatus → HartView
 view_of_parts pc regs reserved status = record { pc = pc; regs = regs; reserved = reserved; status = status }
 
-view_is : (file : List ℕ) (place : ℕ) (view : HartView) → IsView view → StandsAt file place (view_bytes view) →
+view_is : (file : List ℕ) (place : ℕ) (view : HartView) → IsView view → BytesAt file place (view_bytes view) →
     (view_at file place ≡ view) × (view_wrong file place ≡ false)
 unfolding view_at
 view_is file place view is s =
@@ -454,7 +454,7 @@ view_is file place view is s =
 not_out : (n : ℕ) → 1 ≤ n → n ≤ 8 → not (within 1 MAX_HARTS n) ≡ false
 not_out n some few = grind (arith, nat_tests)
 
-head_passes : (c : Content) → IsCertificate c → Parts c (spelling c) → head_fault (spelling c) ≡ None
+head_passes : (c : Content) → IsCertificate c → SpelledPlaces c (spelling c) → head_fault (spelling c) ≡ None
 unfolding head_fault
 head_passes c is p =
     let file = spelling c in
@@ -480,7 +480,7 @@ stretch_passes_in c is k within =
       whole = inside (stretch_stands c k within) (omega arith);
     })
 
-view_passes_in : (c : Content) → IsCertificate c → Parts c (spelling c) → (k : ℕ) → k < c.harts →
+view_passes_in : (c : Content) → IsCertificate c → SpelledPlaces c (spelling c) → (k : ℕ) → k < c.harts →
     view_fault (spelling c) (view_place (spelling c) 0) k ≡ None
 view_passes_in c is p k within =
     let file = spelling c in
@@ -493,7 +493,7 @@ view_passes_in c is p k within =
     let right = (view_is file (view_place file k) view (is.views k low) stands).1 in
     view_passes file (view_place file 0) k (omega arith) (subst (λ n. view_wrong file n ≡ false) there right)
 
-line_passes_in : (c : Content) → IsCertificate c → Parts c (spelling c) → (k : ℕ) → k < length c.lines →
+line_passes_in : (c : Content) → IsCertificate c → SpelledPlaces c (spelling c) → (k : ℕ) → k < length c.lines →
     line_fault (spelling c) (lines_place (spelling c)) k ≡ None
 line_passes_in c is p k within =
     let file = spelling c in
@@ -507,7 +507,7 @@ line_passes_in c is p k within =
       whole = omega (arith, inside stands (omega (arith, size)), size);
     })
 
-ends : (c : Content) → IsCertificate c → Parts c (spelling c) →
+ends : (c : Content) → IsCertificate c → SpelledPlaces c (spelling c) →
     length (spelling c) ≤ line_place (lines_place (spelling c)) (length c.lines)
 ends c is p =
     let file = spelling c in
@@ -519,13 +519,13 @@ ends c is p =
     in
     omega (arith, length-drop (place + 4 + 68 * length c.lines) file, ap length over)
 
-no_fault : (c : Content) → IsCertificate c → Parts c (spelling c) → certificate_fault (spelling c) ≡ None
+no_fault : (c : Content) → IsCertificate c → SpelledPlaces c (spelling c) → certificate_fault (spelling c) ≡ None
 unfolding certificate_fault
 no_fault c is p =
     let file = spelling c in
     let few = is.output in
     let o-is = p.output_is in
-    let o-stands : StandsAt file (output_place file) (output_part c) =
+    let o-stands : BytesAt file (output_place file) (output_part c) =
     record { rest = []; is = p.output ∙ sym (append-nil _) } in
     let o-front = front (output_bytes c.output) (lines_part c) o-stands in
     let o-whole : output_place file + 4 + length c.output ≤ length file =
@@ -535,7 +535,7 @@ no_fault c is p =
       length-append (little_bytes 4 (length c.output)) c.output,
     )
     in
-    let l-stands : StandsAt file (lines_place file) (little_bytes 4 (length c.lines) ++ flat_map patch_bytes c.lines) =
+    let l-stands : BytesAt file (lines_place file) (little_bytes 4 (length c.lines) ++ flat_map patch_bytes c.lines) =
     record { rest = []; is = p.lines ∙ sym (append-nil _) } in
     let l-whole =
     inside (front (little_bytes 4 (length c.lines)) (flat_map patch_bytes c.lines) l-stands) (omega arith) in
@@ -556,7 +556,7 @@ abbrev content_from : ℕ → List Stretch → List HartView → List ℕ → Li
 content_from harts stretches views output lines =
     record { harts = harts; stretches = stretches; views = views; output = output; lines = lines }
 
-read_is : (c : Content) → IsCertificate c → Parts c (spelling c) → content_of (spelling c) ≡ c
+read_is : (c : Content) → IsCertificate c → SpelledPlaces c (spelling c) → content_of (spelling c) ≡ c
 unfolding content_of
 read_is c is p =
     let file = spelling c in

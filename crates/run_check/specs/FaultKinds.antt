@@ -2,7 +2,7 @@
 use Rattle.std.specs.Prelude.{ℕ, List, [], ◌∷◌, Option, codes}
 use Rattle.el_base.specs.Numbered.{name_by_number}
 use Rattle.el_base.specs.declared.file_fault.FileFault.{FileFault}
-use Rattle.file_numbers.specs.Fields.{fault_by}
+use Rattle.file_numbers.specs.Fields.{fault_of_kind}
 use Rattle.run_check.specs.declared.fault.FaultKind.{FaultKind}
 use Rattle.run_check.specs.declared.fault.FaultKind.TheVariants.{Short, Magic, Version, Harts, Stretch, View, Output}
 use Rattle.run_check.specs.declared.fault.FaultKind.TheVariants.{Lines, Tail}
@@ -41,4 +41,4 @@ fault_name = name_by_number number_of name_of fault_kinds
 
 -- the fault of a kind that a place of the file shows
 abbrev pub fault_of : FaultKind → ℕ → FileFault
-fault_of = fault_by number_of
+fault_of = fault_of_kind number_of

@@ -10,7 +10,7 @@ use Rattle.el_base.specs.HartId.{hart_id}
 use Rattle.el_base.specs.LineAddr.{line_addr}
 use Rattle.el_base.specs.declared.file_fault.FileFault.{FileFault}
 use Rattle.el_base.specs.declared.hart_id.TheConstants.{MAX_HARTS}
-use Rattle.file_numbers.specs.Fields.{field_by, wrong_by}
+use Rattle.file_numbers.specs.Fields.{short_or, wrong_byte}
 use Rattle.file_numbers.specs.Numbers.{number_at}
 use Rattle.rv_alu.specs.declared.view.HartStatus.{HartStatus}
 use Rattle.rv_alu.specs.declared.view.HartStatus.TheVariants.{Running, Exited, Trapped}
@@ -26,7 +26,7 @@ use Rattle.run_check.specs.declared.fault.FaultKind.TheVariants as kinds
 
 -- a field that ends at this place: the file ends in it, or it has this fault, if it has one
 abbrev pub field : List ℕ → ℕ → Option FileFault → Option FileFault
-field = field_by (fault_of kinds.Short)
+field = short_or (fault_of kinds.Short)
 
 -- the first fault of the first items, each of which may have one
 abbrev pub first_below : ℕ → (ℕ → Option FileFault) → Option FileFault
@@ -78,7 +78,7 @@ line_at file place index = number_at file (line_place place index)
 
 -- the byte at a place is not the one that is wanted there
 abbrev pub wrong : List ℕ → ℕ → ℕ → FaultKind → Option FileFault
-wrong file place wanted kind = wrong_by (fault_of kind) file place wanted
+wrong file place wanted kind = wrong_byte (fault_of kind) file place wanted
 
 -- the four magic bytes
 abbrev pub magic_fault : List ℕ → Option FileFault

@@ -9,7 +9,7 @@ use crate::fault::FaultKind;
 use el_base::{FileFault, FormatFault};
 
 /// That the file does not end before this place.
-#[tactic(auto, unfolding(file_numbers::specs::Fields::field_by))]
+#[tactic(auto, unfolding(file_numbers::specs::Fields::short_or))]
 pub fn reaches(file: &[u8], end: u32) -> Result<(), FileFault>
     ensures whole { OnOk result (end ≤ length file.now) }
     ensures refused { IfErr result (λ fault.

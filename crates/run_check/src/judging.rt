@@ -94,7 +94,7 @@ fn check_magic(file: &[u8]) -> Result<(), FileFault>
 }
 
 /// The fields before the stretches. Gives the number of harts.
-#[tactic(auto, unfolding(file_numbers::specs::Fields::field_by, crate::specs::Faults::head_fault))]
+#[tactic(auto, unfolding(file_numbers::specs::Fields::short_or, crate::specs::Faults::head_fault))]
 fn check_head(file: &[u8]) -> Result<u8, FileFault>
     ensures value { IfOk result (λ harts. (harts ≡ harts_of file.now) × (1 ≤ harts) × (harts ≤ 8)) }
     ensures accepted { OnOk result (head_fault file.now ≡ None) }
@@ -131,7 +131,7 @@ fn hart_wrong(file: &[u8], harts: u8, index: u32) -> bool
 }
 
 /// One stretch, where so many steps stand before it. Gives the steps with its own.
-#[tactic(auto, unfolding(file_numbers::specs::Fields::field_by, crate::specs::Faults::stretch_fault))]
+#[tactic(auto, unfolding(file_numbers::specs::Fields::short_or, crate::specs::Faults::stretch_fault))]
 fn check_stretch(file: &[u8], harts: u8, index: u32, steps: u32) -> Result<u32, FileFault>
     requires before { steps ≡ steps_before (count_at file.now) index }
     requires few { steps ≤ most_steps }
@@ -175,7 +175,7 @@ fn check_stretches(file: &[u8], harts: u8, count: u32) -> Result<(), FileFault>
 }
 
 /// The view at a place.
-#[tactic(auto, unfolding(file_numbers::specs::Fields::field_by, crate::specs::Faults::view_fault))]
+#[tactic(auto, unfolding(file_numbers::specs::Fields::short_or, crate::specs::Faults::view_fault))]
 fn check_view(file: &[u8], views: u32, hart: u8) -> Result<(), FileFault>
     requires few { hart < 8 }
     requires low { views ≤ 10 + 5 * most_steps }
@@ -231,7 +231,7 @@ fn check_views(file: &[u8], views: u32, harts: u8) -> Result<(), FileFault>
 }
 
 /// The output. Gives its length.
-#[tactic(auto, unfolding(file_numbers::specs::Fields::field_by, crate::specs::Faults::output_fault))]
+#[tactic(auto, unfolding(file_numbers::specs::Fields::short_or, crate::specs::Faults::output_fault))]
 fn check_output(file: &[u8], place: u32) -> Result<u32, FileFault>
     requires low { place ≤ 2000 + 5 * most_steps }
     ensures value { IfOk result (λ len. (len ≡ number_at file.now place) × (len ≤ output_limit)) }
@@ -247,7 +247,7 @@ fn check_output(file: &[u8], place: u32) -> Result<u32, FileFault>
 }
 
 /// The number of lines.
-#[tactic(auto, unfolding(file_numbers::specs::Fields::field_by, crate::specs::Faults::line_count_fault))]
+#[tactic(auto, unfolding(file_numbers::specs::Fields::short_or, crate::specs::Faults::line_count_fault))]
 fn check_line_count(file: &[u8], place: u32) -> Result<u32, FileFault>
     requires low { place ≤ 3000 + 6 * most_steps }
     ensures value { IfOk result (λ count. (count ≡ number_at file.now place) × (count ≤ most_lines)) }
@@ -282,7 +282,7 @@ fn line_wrong(file: &[u8], lines: u32, index: u32) -> bool
 }
 
 /// One line.
-#[tactic(auto, unfolding(file_numbers::specs::Fields::field_by, crate::specs::Faults::line_fault))]
+#[tactic(auto, unfolding(file_numbers::specs::Fields::short_or, crate::specs::Faults::line_fault))]
 fn check_line(file: &[u8], lines: u32, index: u32) -> Result<(), FileFault>
     requires few { index < most_lines }
     requires low { lines ≤ 3000 + 6 * most_steps }

@@ -13,6 +13,7 @@ use Rattle.chronicle.specs.Chronicle.{events}
 use Rattle.el_base.specs.Config.{within}
 use Rattle.el_base.specs.HartId.{hart_id}
 use Rattle.el_base.specs.Kinds.{kind_number}
+use Rattle.el_base.specs.Recordable.{IsRecordable, most_let_go}
 use Rattle.el_base.specs.declared.entries.Entry.{Entry}
 use Rattle.el_base.specs.declared.events.Event.{Event}
 use Rattle.el_base.specs.declared.events.Kind.{Kind}
@@ -36,8 +37,8 @@ use Rattle.trace_file.specs.Fields.{Field, byte_field, entry_width, event_field,
 use Rattle.trace_file.specs.Fields.{is_cause, is_code, is_event}
 use Rattle.trace_file.specs.Fields.{is_line, losers_field, number_field, widths}
 use Rattle.trace_file.specs.Codes.{cause_code, kind_at, why_code}
-use Rattle.trace_file.specs.Outcomes.{IsRecordable, blocking_byte, freed_bytes, losers_bytes}
-use Rattle.trace_file.specs.Outcomes.{most_committed, most_let_go}
+use Rattle.trace_file.specs.Outcomes.{blocking_byte, freed_bytes, losers_bytes}
+use Rattle.trace_file.specs.Outcomes.{most_committed}
 use Rattle.trace_file.specs.Outcomes.{outcome_spelling}
 use Rattle.trace_file.specs.Reading.{entries_in, entry_in, event_in, outcome_in}
 use Rattle.trace_file.specs.Spelling.{entry_bytes, event_byte, outcomes, recorded_bytes}
@@ -98,7 +99,7 @@ pub record IsRead (harts : ℕ) (bytes : List ℕ) : Type 0 where
   pub spelled : entry_bytes (entry_in bytes).event (entry_in bytes).outcome
       ++ drop (entry_width harts bytes) bytes ≡ bytes
   pub hart : (entry_in bytes).event.hart.number < harts
-  pub outcome : IsRecordable harts (entry_in bytes).outcome
+  pub outcome : IsRecordable harts most_committed (entry_in bytes).outcome
 
 pub entry_spelled : (harts place : ℕ) (bytes : List ℕ) → harts ≤ 8 → IsBytes bytes →
     entry_fault harts place bytes ≡ None → IsRead harts bytes
@@ -190,7 +191,7 @@ blocking_passes w h harts small low within =
     rw (high, rest) (grind (arith, nat_tests))
 
 pub entry_again : (harts place : ℕ) (event : Event) (outcome : Outcome) (rest : List ℕ) → harts ≤ 8 →
-    event.hart.number < harts → IsRecordable harts outcome →
+    event.hart.number < harts → IsRecordable harts most_committed outcome →
     (entry_fault harts place (entry_bytes event outcome ++ rest) ≡ None)
     × (drop (entry_width harts (entry_bytes event outcome ++ rest)) (entry_bytes event outcome ++ rest) ≡ rest)
 unfolding entry_fault entry_width
@@ -246,7 +247,8 @@ entry_again harts place event (LetGo count) rest few below known =
 abbrev paired : Event → Outcome → Entry
 paired event outcome = record { event = event; outcome = outcome }
 
-pub entry_back : (harts : ℕ) (event : Event) (outcome : Outcome) (rest : List ℕ) → IsRecordable harts outcome →
+pub entry_back : (harts : ℕ) (event : Event) (outcome : Outcome) (rest : List ℕ) →
+    IsRecordable harts most_committed outcome →
     entry_in (entry_bytes event outcome ++ rest) ≡ paired event outcome
 unfolding entry_in
 entry_back harts event outcome rest known =
@@ -262,7 +264,7 @@ pub record AreRead (harts count : ℕ) (bytes : List ℕ) (entries : List Entry)
   pub many : length (events entries) ≡ count
   pub as_many : length (outcomes entries) ≡ count
   pub below : All (λ event. event.hart.number < harts) (events entries)
-  pub recordable : All (IsRecordable harts) (outcomes entries)
+  pub recordable : All (IsRecordable harts most_committed) (outcomes entries)
 
 pub entries_spelled : (harts count place : ℕ) (bytes : List ℕ) → harts ≤ 8 → IsBytes bytes →
     entries_fault harts count place bytes ≡ None → AreRead harts count bytes (entries_in harts count bytes)
@@ -291,7 +293,8 @@ entries_spelled harts (suc count) place bytes few fits none =
       as_many = ap suc later.as_many;
       below =
           All-cons (λ (event : Event). event.hart.number < harts) entry.event (events entries) first.hart later.below;
-      recordable = All-cons (IsRecordable harts) entry.outcome (outcomes entries) first.outcome later.recordable;
+      recordable =
+          All-cons (IsRecordable harts most_committed) entry.outcome (outcomes entries) first.outcome later.recordable;
     }
 
 -- entries that were spelled
@@ -301,7 +304,8 @@ pub record AreAgain (harts place : ℕ) (es : List Event) (os : List Outcome) : 
   pub again_outcomes : outcomes (entries_in harts (length es) (recorded_bytes es os)) ≡ os
 
 pub entries_again : (harts place : ℕ) (es : List Event) (os : List Outcome) → harts ≤ 8 → length os ≡ length es →
-    All (λ (event : Event). event.hart.number < harts) es → All (IsRecordable harts) os → AreAgain harts place es os
+    All (λ (event : Event). event.hart.number < harts) es → All (IsRecordable harts most_committed) os →
+    AreAgain harts place es os
 entries_again harts place [] [] few many below known =
     record { faultless = refl; again_events = refl; again_outcomes = refl }
 entries_again harts place [] (o ∷ os) few many below known = absurd (omega (arith, many))
@@ -311,11 +315,12 @@ entries_again harts place (e ∷ es) (o ∷ os) few many below known =
     let bytes = entry_bytes e o ++ rest in
     let width = entry_width harts bytes in
     let first-below : e.hart.number < harts = All-head (λ (event : Event). event.hart.number < harts) e es below in
-    let first-known : IsRecordable harts o = All-head (IsRecordable harts) o os known in
+    let first-known : IsRecordable harts most_committed o = All-head (IsRecordable harts most_committed) o os known in
     let first = entry_again harts place e o rest few first-below first-known in
     let back = entry_back harts e o rest first-known in
     let later = entries_again harts (place + width) es os few (omega (arith, many))
-    (All-tail (λ (event : Event). event.hart.number < harts) e es below) (All-tail (IsRecordable harts) o os known)
+    (All-tail (λ (event : Event). event.hart.number < harts) e es below)
+    (All-tail (IsRecordable harts most_committed) o os known)
     in
     record {
       faultless =

@@ -10,6 +10,7 @@ use Rattle.std.proofs.lemmas.List.{get_or_append_left}
 use Rattle.el_base.specs.Freed.{count_in, freed_of}
 use Rattle.el_base.specs.Losers.{beaten_by, decoded_winner, losers_of, winner_code}
 use Rattle.el_base.specs.NibblePairs.{nibble_in, nibble_in-pairs_of, pair_of, pairs_of}
+use Rattle.el_base.specs.Recordable.{AreFreedAmong, AreLosersAmong}
 use Rattle.el_base.specs.declared.freed.Freed.{Freed}
 use Rattle.el_base.specs.declared.losers.Losers.{Losers}
 use Rattle.el_base.proofs.Laws.MadeLosers.{beaten_by-beyond, beaten_by-losers_of, count_in-beyond, count_in-freed_of}
@@ -17,7 +18,7 @@ use Rattle.el_base.proofs.Laws.MadeLosers.{named_by_map, winner_below}
 use Rattle.el_base.proofs.Laws.MadeLosers.{decoded-winner_code}
 use Rattle.el_base.proofs.Laws.SameLosers.{same_freed, same_losers}
 use Rattle.trace_file.specs.Fields.{all_below, are_nibbles, is_nibble, most_for}
-use Rattle.trace_file.specs.Outcomes.{AreFreedBelow, AreLosersBelow, freed_bytes, losers_bytes}
+use Rattle.trace_file.specs.Outcomes.{freed_bytes, losers_bytes}
 use Rattle.trace_file.specs.Reading.{freed_in, losers_in}
 
 -- ---- tests of each number below one
@@ -195,7 +196,7 @@ code_named zero w is = absurd (cc)
 code_named (suc n) w is = let same : n ≡ w = cc in ap suc same
 
 pub losers_below : (harts : ℕ) (bytes : List ℕ) → are_nibbles harts harts bytes ≡ true →
-    AreLosersBelow harts (losers_in bytes)
+    AreLosersAmong harts (losers_in bytes)
 unfolding losers_in
 losers_below harts bytes passes h winner is = by (nat_lt h 8) refl
   where
@@ -236,7 +237,7 @@ losers_again losers rest =
         sym (ap decoded_winner (nibble_in_front (codes_of losers) rest h low)
         ∙ decoded-winner_code (beaten_by losers h) (known (beaten_by losers h) h refl))
 
-pub losers_pass : (harts : ℕ) (losers : Losers) (rest : List ℕ) → harts ≤ 8 → AreLosersBelow harts losers →
+pub losers_pass : (harts : ℕ) (losers : Losers) (rest : List ℕ) → harts ≤ 8 → AreLosersAmong harts losers →
     are_nibbles harts harts (losers_bytes losers ++ rest) ≡ true
 losers_pass harts losers rest few below =
     sym (nibbles_pass harts harts (losers_bytes losers ++ rest)
@@ -274,7 +275,7 @@ freed_spelled bytes fits small =
     ∙ pairs_again bytes fits
 
 pub freed_below : (harts : ℕ) (bytes : List ℕ) → are_nibbles harts 15 bytes ≡ true →
-    AreFreedBelow harts (freed_in bytes)
+    AreFreedAmong harts (freed_in bytes)
 unfolding freed_in
 freed_below harts bytes passes h over = by (nat_lt h 8) refl (nat_lt h harts) refl
   where
@@ -304,7 +305,7 @@ freed_again freed rest = sym (freed_are freed (freed_bytes freed ++ rest) small 
     alike : (h : ℕ) → h < 8 → count_in freed h ≡ nibble_in (freed_bytes freed ++ rest) h
     alike h low = sym (nibble_in_front (count_in freed) rest h low ∙ omega (arith, fits h))
 
-pub freed_pass : (harts : ℕ) (freed : Freed) (rest : List ℕ) → AreFreedBelow harts freed →
+pub freed_pass : (harts : ℕ) (freed : Freed) (rest : List ℕ) → AreFreedAmong harts freed →
     are_nibbles harts 15 (freed_bytes freed ++ rest) ≡ true
 freed_pass harts freed rest below =
     sym (nibbles_pass harts 15 (freed_bytes freed ++ rest)

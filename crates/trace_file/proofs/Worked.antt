@@ -16,7 +16,7 @@ use Rattle.el_base.specs.declared.outcomes.Need.TheVariants.{Read}
 use Rattle.el_base.specs.declared.outcomes.Outcome.{Outcome}
 use Rattle.el_base.specs.declared.outcomes.Outcome.TheVariants.{Idle, Ran, Missed, Ordered, Served}
 use Rattle.trace_file.specs.Spelling.{spelling}
-use Rattle.file_numbers.specs.Fields.{field_by}
+use Rattle.file_numbers.specs.Fields.{short_or}
 use Rattle.trace_file.specs.Faults.{byte_fault, magic_fault, version_fault, settings_fault, number_fault}
 use Rattle.trace_file.specs.Faults.{head_fault, event_fault, end_fault}
 use Rattle.trace_file.specs.Faults.{events_fault, field_fault, entry_fault, body_fault, trace_fault}
@@ -49,52 +49,52 @@ spelled_in_plain_mode : spelling (record config { mode = Plain }) (of_hart_0 Ste
 spelled_in_plain_mode = refl
 
 faultless : trace_fault file ≡ None
-unfolding field_by magic_fault byte_fault version_fault settings_fault number_fault head_fault event_fault end_fault
+unfolding short_or magic_fault byte_fault version_fault settings_fault number_fault head_fault event_fault end_fault
     events_fault field_fault entry_width entry_fault body_fault trace_fault
 faultless = refl
 
 short_in_magic : trace_fault (take 3 file) ≡ bad 1 3
-unfolding field_by magic_fault byte_fault version_fault settings_fault number_fault head_fault event_fault end_fault
+unfolding short_or magic_fault byte_fault version_fault settings_fault number_fault head_fault event_fault end_fault
     events_fault field_fault entry_width entry_fault body_fault trace_fault
 short_in_magic = refl
 
 short_of_an_event : trace_fault (take 23 file) ≡ bad 1 23
-unfolding field_by magic_fault byte_fault version_fault settings_fault number_fault head_fault event_fault end_fault
+unfolding short_or magic_fault byte_fault version_fault settings_fault number_fault head_fault event_fault end_fault
     events_fault field_fault entry_width entry_fault body_fault trace_fault
 short_of_an_event = refl
 
 one_byte_more : trace_fault (file ++ 0 ∷ []) ≡ bad 6 24
-unfolding field_by magic_fault byte_fault version_fault settings_fault number_fault head_fault event_fault end_fault
+unfolding short_or magic_fault byte_fault version_fault settings_fault number_fault head_fault event_fault end_fault
     events_fault field_fault entry_width entry_fault body_fault trace_fault
 one_byte_more = refl
 
 wrong_letter : trace_fault (set file 3 0x53) ≡ bad 2 3
-unfolding field_by magic_fault byte_fault version_fault settings_fault number_fault head_fault event_fault end_fault
+unfolding short_or magic_fault byte_fault version_fault settings_fault number_fault head_fault event_fault end_fault
     events_fault field_fault entry_width entry_fault body_fault trace_fault
 wrong_letter = refl
 
 no_such_version : trace_fault (set file 4 3) ≡ bad 3 4
-unfolding field_by magic_fault byte_fault version_fault settings_fault number_fault head_fault event_fault end_fault
+unfolding short_or magic_fault byte_fault version_fault settings_fault number_fault head_fault event_fault end_fault
     events_fault field_fault entry_width entry_fault body_fault trace_fault
 no_such_version = refl
 
 no_harts : trace_fault (set (set file 7 3) 5 0) ≡ bad 4 5
-unfolding field_by magic_fault byte_fault version_fault settings_fault number_fault head_fault event_fault end_fault
+unfolding short_or magic_fault byte_fault version_fault settings_fault number_fault head_fault event_fault end_fault
     events_fault field_fault entry_width entry_fault body_fault trace_fault
 no_harts = refl
 
 no_such_mode : trace_fault (set file 6 3) ≡ bad 4 6
-unfolding field_by magic_fault byte_fault version_fault settings_fault number_fault head_fault event_fault end_fault
+unfolding short_or magic_fault byte_fault version_fault settings_fault number_fault head_fault event_fault end_fault
     events_fault field_fault entry_width entry_fault body_fault trace_fault
 no_such_mode = refl
 
 more_events_than_steps : trace_fault (set (set (set file 14 1) 15 0) 16 0) ≡ bad 4 18
-unfolding field_by magic_fault byte_fault version_fault settings_fault number_fault head_fault event_fault end_fault
+unfolding short_or magic_fault byte_fault version_fault settings_fault number_fault head_fault event_fault end_fault
     events_fault field_fault entry_width entry_fault body_fault trace_fault
 more_events_than_steps = refl
 
 no_such_hart : trace_fault (set file 22 0x08) ≡ bad 5 22
-unfolding field_by magic_fault byte_fault version_fault settings_fault number_fault head_fault event_fault end_fault
+unfolding short_or magic_fault byte_fault version_fault settings_fault number_fault head_fault event_fault end_fault
     events_fault field_fault entry_width entry_fault body_fault trace_fault
 no_such_hart = refl
 
@@ -143,61 +143,61 @@ recorded_spelled : spelling config (map of_hart_0 kinds) (Some made) ≡ recorde
 recorded_spelled = refl
 
 recorded_faultless : trace_fault recorded_file ≡ None
-unfolding field_by magic_fault byte_fault version_fault settings_fault number_fault head_fault event_fault end_fault
+unfolding short_or magic_fault byte_fault version_fault settings_fault number_fault head_fault event_fault end_fault
     events_fault are_nibbles field_fault entry_width entry_fault body_fault trace_fault
 recorded_faultless = refl
 
 cut_behind_the_head : trace_fault (take 22 recorded_file) ≡ bad 1 22
-unfolding field_by magic_fault byte_fault version_fault settings_fault number_fault head_fault event_fault end_fault
+unfolding short_or magic_fault byte_fault version_fault settings_fault number_fault head_fault event_fault end_fault
     events_fault are_nibbles field_fault entry_width entry_fault body_fault trace_fault
 cut_behind_the_head = refl
 
 cut_before_an_outcome : trace_fault (take 23 recorded_file) ≡ bad 1 23
-unfolding field_by magic_fault byte_fault version_fault settings_fault number_fault head_fault event_fault end_fault
+unfolding short_or magic_fault byte_fault version_fault settings_fault number_fault head_fault event_fault end_fault
     events_fault are_nibbles field_fault entry_width entry_fault body_fault trace_fault
 cut_before_an_outcome = refl
 
 cut_in_a_line : trace_fault (take 66 recorded_file) ≡ bad 1 66
-unfolding field_by magic_fault byte_fault version_fault settings_fault number_fault head_fault event_fault end_fault
+unfolding short_or magic_fault byte_fault version_fault settings_fault number_fault head_fault event_fault end_fault
     events_fault are_nibbles field_fault entry_width entry_fault body_fault trace_fault
 cut_in_a_line = refl
 
 cut_in_the_last_entry : trace_fault (take 115 recorded_file) ≡ bad 1 115
-unfolding field_by magic_fault byte_fault version_fault settings_fault number_fault head_fault event_fault end_fault
+unfolding short_or magic_fault byte_fault version_fault settings_fault number_fault head_fault event_fault end_fault
     events_fault are_nibbles field_fault entry_width entry_fault body_fault trace_fault
 cut_in_the_last_entry = refl
 
 one_byte_behind_the_entries : trace_fault (recorded_file ++ 0 ∷ []) ≡ bad 6 116
-unfolding field_by magic_fault byte_fault version_fault settings_fault number_fault head_fault event_fault end_fault
+unfolding short_or magic_fault byte_fault version_fault settings_fault number_fault head_fault event_fault end_fault
     events_fault are_nibbles field_fault entry_width entry_fault body_fault trace_fault
 one_byte_behind_the_entries = refl
 
 hart_of_an_entry : trace_fault (set recorded_file 22 0x08) ≡ bad 5 22
-unfolding field_by magic_fault byte_fault version_fault settings_fault number_fault head_fault event_fault end_fault
+unfolding short_or magic_fault byte_fault version_fault settings_fault number_fault head_fault event_fault end_fault
     events_fault are_nibbles field_fault entry_width entry_fault body_fault trace_fault
 hart_of_an_entry = refl
 
 no_harts_with_outcomes : trace_fault (set recorded_file 5 0) ≡ bad 4 5
-unfolding field_by magic_fault byte_fault version_fault settings_fault number_fault head_fault event_fault end_fault
+unfolding short_or magic_fault byte_fault version_fault settings_fault number_fault head_fault event_fault end_fault
     events_fault are_nibbles field_fault entry_width entry_fault body_fault trace_fault
 no_harts_with_outcomes = refl
 
 code_15 : trace_fault (set recorded_file 23 0x0f) ≡ bad 7 23
-unfolding field_by magic_fault byte_fault version_fault settings_fault number_fault head_fault event_fault end_fault
+unfolding short_or magic_fault byte_fault version_fault settings_fault number_fault head_fault event_fault end_fault
     events_fault are_nibbles field_fault entry_width entry_fault body_fault trace_fault
 code_15 = refl
 
 line_too_high : trace_fault (set recorded_file 67 0x04) ≡ bad 7 64
-unfolding field_by magic_fault byte_fault version_fault settings_fault number_fault head_fault event_fault end_fault
+unfolding short_or magic_fault byte_fault version_fault settings_fault number_fault head_fault event_fault end_fault
     events_fault are_nibbles field_fault entry_width entry_fault body_fault trace_fault
 line_too_high = refl
 
 loser_that_is_no_hart : trace_fault (set recorded_file 70 0x10) ≡ bad 7 70
-unfolding field_by magic_fault byte_fault version_fault settings_fault number_fault head_fault event_fault end_fault
+unfolding short_or magic_fault byte_fault version_fault settings_fault number_fault head_fault event_fault end_fault
     events_fault are_nibbles field_fault entry_width entry_fault body_fault trace_fault
 loser_that_is_no_hart = refl
 
 freed_that_is_no_hart : trace_fault (set recorded_file 77 0x01) ≡ bad 7 74
-unfolding field_by magic_fault byte_fault version_fault settings_fault number_fault head_fault event_fault end_fault
+unfolding short_or magic_fault byte_fault version_fault settings_fault number_fault head_fault event_fault end_fault
     events_fault are_nibbles field_fault entry_width entry_fault body_fault trace_fault
 freed_that_is_no_hart = refl

@@ -13,8 +13,8 @@ use Rattle.el_base.specs.declared.outcomes.Why.{Why}
 use Rattle.el_base.specs.declared.outcomes.Why.TheVariants.{Behind, Retained, Locked}
 
 -- the first of several kinds that has a code, or the last where none of them has it
-abbrev pub with_code : {A : Type 0} → (A → ℕ) → List A → A → ℕ → A
-with_code code_of others last code = unwrap_or (find (λ one. code_of one == code) others) last
+abbrev pub one_with_code : {A : Type 0} → (A → ℕ) → List A → A → ℕ → A
+one_with_code code_of others last code = unwrap_or (find (λ one. code_of one == code) others) last
 
 -- ---- codes
 
@@ -33,13 +33,13 @@ why_code Locked = 2
 -- ---- the kinds that codes say
 
 abbrev pub mode_at : ℕ → Mode
-mode_at number = with_code mode_number (Plain ∷ Sle ∷ []) Tlr number
+mode_at number = one_with_code mode_number (Plain ∷ Sle ∷ []) Tlr number
 
 unfoldable pub kind_at : ℕ → Kind
-kind_at number = with_code kind_number (Step ∷ Order ∷ Serve ∷ []) Deliver number
+kind_at number = one_with_code kind_number (Step ∷ Order ∷ Serve ∷ []) Deliver number
 
 unfoldable pub cause_at : ℕ → Cause
-cause_at code = with_code cause_code (Room ∷ Lines ∷ Long ∷ Call ∷ []) Mixed code
+cause_at code = one_with_code cause_code (Room ∷ Lines ∷ Long ∷ Call ∷ []) Mixed code
 
 unfoldable pub why_at : ℕ → Why
-why_at code = with_code why_code (Behind ∷ Retained ∷ []) Locked code
+why_at code = one_with_code why_code (Behind ∷ Retained ∷ []) Locked code

@@ -9,7 +9,7 @@ use Rattle.el_base.specs.Firsts.{first_of, some_if}
 use Rattle.el_base.specs.declared.file_fault.FileFault.{FileFault}
 use Rattle.el_base.specs.declared.config.Config as settings
 use Rattle.el_base.specs.declared.config.ConfigFault.TheVariants as settings_of
-use Rattle.file_numbers.specs.Fields.{field_by, wrong_by}
+use Rattle.file_numbers.specs.Fields.{short_or, wrong_byte}
 use Rattle.file_numbers.specs.Numbers.{number_at}
 use Rattle.trace_file.specs.Codes.{mode_at}
 use Rattle.trace_file.specs.declared.fault.FaultKind.{FaultKind}
@@ -19,7 +19,7 @@ use Rattle.trace_file.specs.Fields.{Field, entry_fields, entry_width, is_event}
 
 -- a field that ends at this place: the file ends in it, or it has this fault, if it has one
 abbrev pub field : List ℕ → ℕ → Option FileFault → Option FileFault
-field = field_by (fault_of Short)
+field = short_or (fault_of Short)
 
 -- the fault of a field of so many bytes that is not whole in these, which stand at a place of the file
 abbrev pub IsShort : List ℕ → ℕ → ℕ → FileFault → Type 0
@@ -27,7 +27,7 @@ IsShort bytes width place fault = (length bytes < width) × (fault ≡ fault_of 
 
 -- the byte at a place is not the one that is wanted there
 abbrev pub wrong : List ℕ → ℕ → ℕ → FaultKind → Option FileFault
-wrong file place wanted kind = wrong_by (fault_of kind) file place wanted
+wrong file place wanted kind = wrong_byte (fault_of kind) file place wanted
 
 -- a byte of the configuration, and a number of four bytes, which this test is to pass
 unfoldable pub byte_fault : List ℕ → ℕ → (ℕ → Bool) → Option FileFault

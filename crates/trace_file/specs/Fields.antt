@@ -4,8 +4,9 @@ use Rattle.std.specs.Prelude.{List, [], ◌∷◌, slice_index}
 use Rattle.byteorder.specs.Endian.{little_number}
 use Rattle.el_base.specs.Config.{within}
 use Rattle.el_base.specs.NibblePairs.{nibble_in}
+use Rattle.el_base.specs.Recordable.{most_let_go}
 use Rattle.el_base.specs.declared.hart_id.TheConstants.{MAX_HARTS}
-use Rattle.trace_file.specs.Outcomes.{most_committed, most_let_go}
+use Rattle.trace_file.specs.Outcomes.{most_committed}
 use Rattle.trace_file.specs.declared.fault.FaultKind.{FaultKind}
 use Rattle.trace_file.specs.declared.fault.FaultKind.TheVariants as kinds
 

@@ -6,11 +6,12 @@ use Rattle.byteorder.specs.Endian.{little_bytes}
 use Rattle.el_base.specs.Config.{IsInRange}
 use Rattle.el_base.specs.Kinds.{kind_number}
 use Rattle.el_base.specs.Modes.{mode_number}
+use Rattle.el_base.specs.Recordable.{IsRecordable}
 use Rattle.el_base.specs.declared.entries.Entry.{Entry}
 use Rattle.el_base.specs.declared.events.Event.{Event}
 use Rattle.el_base.specs.declared.config.Config.{Config}
 use Rattle.el_base.specs.declared.outcomes.Outcome.{Outcome}
-use Rattle.trace_file.specs.Outcomes.{IsRecordable, outcome_spelling}
+use Rattle.trace_file.specs.Outcomes.{most_committed, outcome_spelling}
 
 -- "ELTR"
 abbrev pub magic : List ℕ
@@ -60,7 +61,8 @@ outcomes entries = map (λ entry. entry.outcome) entries
 -- one outcome an event, where outcomes are recorded, and each of them one that a trace can record
 abbrev pub AreRecorded : ℕ → List Event → Option (List Outcome) → Type 0
 AreRecorded harts events None = Unit {0}
-AreRecorded harts events (Some outcomes) = (length outcomes ≡ length events) × All (IsRecordable harts) outcomes
+AreRecorded harts events (Some outcomes) =
+    (length outcomes ≡ length events) × All (IsRecordable harts most_committed) outcomes
 
 -- what has a spelling: a configuration in range, and no more events than its steps, all of harts below
 -- its harts, with outcomes that can be recorded or with none

@@ -50,7 +50,7 @@ pub fn expect(holds: bool, kind: FaultKind, place: u32) -> Result<(), FileFault>
 }
 
 /// The byte at a place, which a field of the configuration is to allow.
-#[tactic(auto, unfolding(file_numbers::specs::Fields::field_by, crate::specs::Faults::byte_fault))]
+#[tactic(auto, unfolding(file_numbers::specs::Fields::short_or, crate::specs::Faults::byte_fault))]
 pub fn setting_byte(file: &[u8], place: u32, setting: ConfigFault) -> Result<u8, FileFault>
     requires { place < 22 }
     ensures value { IfOk result (λ byte. byte ≡ slice_index file.now place) }
@@ -64,7 +64,7 @@ pub fn setting_byte(file: &[u8], place: u32, setting: ConfigFault) -> Result<u8,
 }
 
 /// The number of the four bytes at a place, which a field of the configuration is to allow.
-#[tactic(auto, unfolding(file_numbers::specs::Fields::field_by, crate::specs::Faults::number_fault))]
+#[tactic(auto, unfolding(file_numbers::specs::Fields::short_or, crate::specs::Faults::number_fault))]
 pub fn setting_number(file: &[u8], place: u32, setting: ConfigFault) -> Result<u32, FileFault>
     requires { place < 22 }
     ensures value { IfOk result (λ number. number ≡ number_at file.now place) }

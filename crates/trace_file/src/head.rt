@@ -77,7 +77,7 @@ pub fn head_of(file: &[u8]) -> Result<Head, FileFault>
     })
 }
 
-#[tactic(auto, unfolding(file_numbers::specs::Fields::field_by, crate::specs::Faults::magic_fault))]
+#[tactic(auto, unfolding(file_numbers::specs::Fields::short_or, crate::specs::Faults::magic_fault))]
 fn check_magic(file: &[u8]) -> Result<(), FileFault>
     ensures accepted { OnOk result (magic_fault file.now ≡ None) }
     ensures refused { IfErr result (λ fault. magic_fault file.now ≡ Some fault) }
@@ -89,7 +89,7 @@ fn check_magic(file: &[u8]) -> Result<(), FileFault>
     expect(file[3] == MAGIC[3], FaultKind::Magic, 3)
 }
 
-#[tactic(auto, unfolding(file_numbers::specs::Fields::field_by, crate::specs::Faults::version_fault))]
+#[tactic(auto, unfolding(file_numbers::specs::Fields::short_or, crate::specs::Faults::version_fault))]
 fn version_of(file: &[u8]) -> Result<u8, FileFault>
     ensures value { IfOk result (λ version. version ≡ slice_index file.now 4) }
     ensures accepted { OnOk result (version_fault file.now ≡ None) }
@@ -134,7 +134,7 @@ fn config_of(file: &[u8]) -> Result<Config, FileFault>
 const LAST_MODE: u8 = 2;
 
 /// The mode: 0 is plain, 1 sle, 2 tlr.
-#[tactic(auto, unfolding(file_numbers::specs::Fields::field_by, crate::specs::Faults::byte_fault))]
+#[tactic(auto, unfolding(file_numbers::specs::Fields::short_or, crate::specs::Faults::byte_fault))]
 fn mode_of(file: &[u8]) -> Result<Mode, FileFault>
     ensures value { IfOk result (λ mode. mode ≡ mode_at (slice_index file.now 6)) }
     ensures accepted { OnOk result (byte_fault file.now 6 is_mode ≡ None) }
@@ -147,7 +147,7 @@ fn mode_of(file: &[u8]) -> Result<Mode, FileFault>
 }
 
 /// How many events there are: no more than steps.
-#[tactic(auto, unfolding(file_numbers::specs::Fields::field_by, crate::specs::Faults::number_fault))]
+#[tactic(auto, unfolding(file_numbers::specs::Fields::short_or, crate::specs::Faults::number_fault))]
 fn count_of(file: &[u8], steps: u32) -> Result<u32, FileFault>
     ensures value { IfOk result (λ count. count ≡ number_at file.now 18) }
     ensures accepted { OnOk result (number_fault file.now 18 (is_few steps) ≡ None) }

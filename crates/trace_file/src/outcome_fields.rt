@@ -8,10 +8,11 @@ ghost use Rattle.el_base.specs.Config.{within};
 ghost use Rattle.el_base.specs.HartId.{hart_id};
 ghost use Rattle.el_base.specs.LineAddr.{line_addr};
 ghost use Rattle.el_base.specs.NibblePairs.{nibble_in};
+ghost use Rattle.el_base.specs.Recordable.{most_let_go};
 ghost use Rattle.trace_file.specs.Codes.{cause_at, why_at};
 ghost use Rattle.trace_file.specs.Faults.{IsShort, field_fault};
 ghost use Rattle.trace_file.specs.Fields.{are_nibbles, byte_field, freed_field, is_blocking, is_cause, is_line, losers_field, most_for, number_field};
-ghost use Rattle.trace_file.specs.Outcomes.{most_committed, most_let_go};
+ghost use Rattle.trace_file.specs.Outcomes.{most_committed};
 ghost use Rattle.trace_file.specs.Reading.{freed_in, losers_in};
 
 use crate::codes::{self, why_of};

@@ -64,7 +64,7 @@ fn check_events(file: &[u8], harts: u8, count: u32) -> Result<(), FileFault>
     }
 }
 
-#[tactic(auto, unfolding(file_numbers::specs::Fields::field_by, crate::specs::Faults::end_fault))]
+#[tactic(auto, unfolding(file_numbers::specs::Fields::short_or, crate::specs::Faults::end_fault))]
 fn check_end(file: &[u8], count: u32) -> Result<(), FileFault>
     requires few { count ≤ MAX_STEPS }
     ensures accepted { OnOk result (end_fault count file.now ≡ None) }

@@ -3,8 +3,9 @@
 ghost use Rattle.std.specs.Prelude.{◌≡◌, ◌≢◌, ◌+◌, ◌-◌, ◌++◌, ◌<◌, ◌≤◌, ◌*◌, ◌∷◌, [], Err, Some, length, vec_capacity, All, IfOk, OnOk};
 ghost use Rattle.chronicle.specs.Chronicle.{events};
 ghost use Rattle.el_base.specs.Config.{IsInRange};
+ghost use Rattle.el_base.specs.Recordable.{IsRecordable};
 ghost use Rattle.el_io.specs.Shelf.{Holds, KeepsOthers, Records};
-ghost use Rattle.trace_file.specs.Outcomes.{IsRecordable, outcome_spelling};
+ghost use Rattle.trace_file.specs.Outcomes.{most_committed, outcome_spelling};
 ghost use Rattle.trace_file.specs.Spelling.{entry_bytes, event_byte, head, outcomes, spelling};
 ghost use Rattle.trace_file.specs.Stretches.{between, bytes_of};
 
@@ -241,7 +242,7 @@ pub fn write_trace<S: Shelf>(
     requires in_range { IsInRange config.now }
     requires few { length history.now.entries ≤ config.now.steps }
     requires harts { All (λ event. event.hart.number < config.now.harts) (events history.now.entries) }
-    requires outcomes { All (IsRecordable config.now.harts) (outcomes history.now.entries) }
+    requires outcomes { All (IsRecordable config.now.harts most_committed) (outcomes history.now.entries) }
     ensures written { OnOk result (Holds (S.told shelf.new) name.now
         (spelling config.now (events history.now.entries) (Some (outcomes history.now.entries)))) }
     ensures others_stay { KeepsOthers (S.told shelf.old) (S.told shelf.new) name.now }

@@ -11,6 +11,7 @@ use Rattle.byteorder.specs.Numbers.{little_number-reads_back}
 use Rattle.el_base.specs.Config.{within}
 use Rattle.el_base.specs.HartId.{hart_id}
 use Rattle.el_base.specs.LineAddr.{line_addr}
+use Rattle.el_base.specs.Recordable.{IsRecordable, most_let_go}
 use Rattle.el_base.specs.declared.freed.Freed.{Freed}
 use Rattle.el_base.specs.declared.hart_id.HartId.{HartId}
 use Rattle.el_base.specs.declared.losers.Losers.{Losers}
@@ -32,8 +33,8 @@ use Rattle.trace_file.specs.Codes.{cause_at, cause_code, why_at, why_code}
 use Rattle.trace_file.specs.Faults.{fields_fault}
 use Rattle.trace_file.specs.Fields.{byte_field, fields_of, freed_field, is_blocking, is_cause, is_line, losers_field}
 use Rattle.trace_file.specs.Fields.{number_field, widths}
-use Rattle.trace_file.specs.Outcomes.{IsRecordable, blocking_byte, freed_bytes, losers_bytes}
-use Rattle.trace_file.specs.Outcomes.{most_committed, most_let_go}
+use Rattle.trace_file.specs.Outcomes.{blocking_byte, freed_bytes, losers_bytes}
+use Rattle.trace_file.specs.Outcomes.{most_committed}
 use Rattle.trace_file.specs.Outcomes.{outcome_spelling}
 use Rattle.trace_file.specs.Reading.{freed_in, losers_in, outcome_in}
 use Rattle.trace_file.proofs.FieldRows.{first_known}
@@ -117,7 +118,7 @@ number_spelled code n bytes fits long is =
 both_spelled : (harts place : ℕ) (bytes : List ℕ) → harts ≤ 8 → IsBytes bytes →
     fields_fault place bytes (losers_field harts ∷ freed_field harts ∷ []) ≡ None →
     ((losers_bytes (losers_in bytes) ++ freed_bytes (freed_in (drop 4 bytes))) ++ drop 8 bytes ≡ bytes)
-    × IsRecordable harts (Ordered (losers_in bytes) (freed_in (drop 4 bytes)))
+    × IsRecordable harts most_committed (Ordered (losers_in bytes) (freed_in (drop 4 bytes)))
 both_spelled harts place bytes few fits none =
     let e0 = first_known place bytes (losers_field harts) (freed_field harts ∷ []) none in
     let e1 = first_known (place + 4) (drop 4 bytes) (freed_field harts) [] e0.2 in
@@ -132,7 +133,7 @@ both_spelled harts place bytes few fits none =
 pub outcome_spelled : (harts code place : ℕ) (bytes : List ℕ) → code ≤ 14 → harts ≤ 8 → IsBytes bytes →
     fields_fault place bytes (fields_of harts code) ≡ None →
     Spells code bytes (outcome_in code bytes) (drop (widths (fields_of harts code)) bytes)
-    × IsRecordable harts (outcome_in code bytes)
+    × IsRecordable harts most_committed (outcome_in code bytes)
 unfolding outcome_in
 outcome_spelled harts zero place bytes known few fits none = (refl, tt)
 outcome_spelled harts (suc zero) place bytes known few fits none = (refl, tt)
@@ -198,7 +199,7 @@ outcome_spelled harts (suc (suc (suc (suc (suc (suc (suc (suc (suc (suc (suc (su
 pub number_again : (n : ℕ) (rest : List ℕ) → n < 2 ^ 32 → little_number 4 (little_bytes 4 n ++ rest) ≡ n
 number_again n rest small = little_number-reads_back 4 n rest small
 
-pub outcome_back : (harts : ℕ) (outcome : Outcome) (rest : List ℕ) → IsRecordable harts outcome →
+pub outcome_back : (harts : ℕ) (outcome : Outcome) (rest : List ℕ) → IsRecordable harts most_committed outcome →
     outcome_in (get_or (outcome_spelling outcome ++ rest) 0 0) (drop 1 (outcome_spelling outcome ++ rest)) ≡ outcome
 unfolding outcome_in
 outcome_back harts Idle rest known = refl

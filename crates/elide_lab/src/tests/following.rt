@@ -194,11 +194,12 @@ const TAKEN: PlainSwap = PlainSwap {
 };
 
 /// The file of these instructions, fewer than 40: the headers of `HELLO`, and one segment that is the whole file.
-fn file_of(alloc: Global, code: &[u32]) -> Result<Vec<u8>, AllocError> {
+fn file_of(rt: &impl Abort, alloc: Global, code: &[u32]) -> Result<Vec<u8>, AllocError> {
     let mut file = HELLO[..CODE].to_vec(alloc)?;
     for word in code {
         file.extend_from_slice(&word.to_le_bytes())?;
     }
+    assert!(rt; file.len() <= 255);
     let length = file.len() as u8;
     for place in LENGTHS {
         if let Some(byte) = file.get_mut(place) {
@@ -210,7 +211,7 @@ fn file_of(alloc: Global, code: &[u32]) -> Result<Vec<u8>, AllocError> {
 
 /// A machine of a run, with eight harts.
 fn machine_of(rt: &impl Abort, alloc: Global, run: &Run) -> Result<Machine, Fail> {
-    let file = file_of(alloc, run.code)?;
+    let file = file_of(rt, alloc, run.code)?;
     assert!(rt; file.len() <= 1_000);
     let image = load(alloc, &file, 8).map_err(|_| "no image")?;
     assert_eq!(rt; image.harts(), 8);
